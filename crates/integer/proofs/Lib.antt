@@ -1,0 +1,7 @@
+pub mod Bounds
+pub mod Difference
+pub mod Floor
+pub mod Order
+pub mod Quadratic
+pub mod Signed
+pub mod SquareRoot

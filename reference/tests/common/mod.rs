@@ -1,0 +1,116 @@
+//! Texts and values that several tests use.
+#![allow(dead_code)]
+
+use reference::{book, CurveSet, Group, Record, Refusal, GROUPS};
+
+pub fn refusal<T>(number: u32, line: u64) -> Result<T, Refusal> {
+    Err(Refusal { number, line })
+}
+
+/// A listing's text: its spaces and line breaks stand for byte 10.
+pub fn text(listing: &str) -> String {
+    listing
+        .split_whitespace()
+        .map(|line| format!("{line}\n"))
+        .collect()
+}
+
+/// Replaces one whole line, which must stand in the text once.
+pub fn with_line(text: &str, old: &str, new: &str) -> String {
+    let old = format!("{old}\n");
+    let framed = format!("\n{text}");
+    assert_eq!(framed.matches(&format!("\n{old}")).count(), 1, "{old:?}");
+    framed.replacen(&format!("\n{old}"), &format!("\n{new}\n"), 1)[1..].to_string()
+}
+
+/// Replaces the line with this number, counted from 1.
+pub fn with_line_at(text: &str, line: usize, new: &str) -> String {
+    let mut lines: Vec<&str> = text.lines().collect();
+    lines[line - 1] = new;
+    lines.iter().map(|line| format!("{line}\n")).collect()
+}
+
+/// The first `count` lines.
+pub fn first_lines(text: &str, count: usize) -> String {
+    text.split_inclusive('\n').take(count).collect()
+}
+
+/// An hour in the group of `month` and `hour` whose error is `error`.
+pub fn hour_with_error(month: u32, hour: u32, error: i64) -> String {
+    text(&format!(
+        "month={month} hour={hour}
+         ongen=0 load=0 tie={} ns=0 reg=0 rrs=0 nclr=0 offns=0 cold30=0 shed=0 runs=1
+         hsl=0 base=0 rrs=0 nclr=0 reg=0 ns=0 offns=0 cold30=0 short=0",
+        -error
+    ))
+}
+
+/// A month and an hour of each group, in the groups' order.
+pub fn month_and_hour_of_groups() -> impl Iterator<Item = (u32, u32)> {
+    [1, 4, 7, 10]
+        .into_iter()
+        .flat_map(|month| (0..6).map(move |block| (month, 4 * block)))
+}
+
+/// The hours that book each of these errors once in every group.
+pub fn hours_with_errors(errors: &[i64]) -> Vec<String> {
+    month_and_hour_of_groups()
+        .flat_map(|(month, hour)| {
+            errors
+                .iter()
+                .map(move |&error| hour_with_error(month, hour, error))
+        })
+        .collect()
+}
+
+/// A record in which every group has these errors.
+pub fn record_of_errors(errors: &[i64]) -> Record {
+    hours_with_errors(errors)
+        .iter()
+        .fold(Record::fresh(), |record, hour| {
+            book(&record, hour.as_bytes()).unwrap()
+        })
+}
+
+/// A fresh record but for its group 5.
+pub fn record_of_group(count: u64, sum: i64, squares: i64) -> Record {
+    let mut record = Record::fresh();
+    record.groups[5] = Group {
+        count,
+        sum,
+        squares,
+    };
+    record
+}
+
+/// The curves of the worked example.
+pub fn example_curves() -> CurveSet {
+    CurveSet {
+        voll: 900_000,
+        floor: 2_000_000,
+        pairs: [(0, 1_000_000); GROUPS],
+    }
+}
+
+pub fn example_curve_text() -> String {
+    text("voll=900000 floor=2000000") + &text("mu=0 sigma=1000000").repeat(GROUPS)
+}
+
+/// The snapshot of the worked example.
+pub fn example_snapshot() -> String {
+    text(
+        "month=7 hour=14 lambda=2500 factor=10000 prc=3000000 eea1=2300000 short=0 count=3
+         id=A kind=gen status=ON net=200000 lsl=100000 hsl=2000000 base=200000 nonspin=0 cold30=0
+         id=B kind=gen status=ON net=95000 lsl=100000 hsl=1000000 base=93000 nonspin=0 cold30=0
+         id=C kind=gen status=OFFNS net=0 lsl=0 hsl=293000 base=0 nonspin=0 cold30=0",
+    )
+}
+
+/// A snapshot of these resources, with factor 1, PRC above EEA Level 1 and
+/// nothing short.
+pub fn snapshot_of(resources: &[&str]) -> String {
+    let header = text("month=7 hour=14 lambda=0 factor=10000 prc=1 eea1=0 short=0");
+    let count = format!("count={}\n", resources.len());
+    let resources: String = resources.iter().map(|resource| text(resource)).collect();
+    header + &count + &resources
+}
