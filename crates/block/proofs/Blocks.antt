@@ -1,0 +1,129 @@
+-- Laws on blocks: a schema's next line, and reading a block line by line into places.
+use Prim.Native.Nat.{ℕ, suc, _+_, _-_, _≤_, _<_}
+use native.Mathlib.Nat.{sub-zero}
+use native.Mathlib.Numerals.{add-one}
+use native.Mathlib.Omega.{arith}
+use mathlib.Core.List.{List, [], _∷_, _++_, append-assoc, append-nil}
+use mathlib.Core.Path.{_≡_, refl, ap, _∙_}
+use lib.IntN.{ℤ}
+use lib.ListN.{length, take, drop, getD, set, drop-of-length-le, length-append, length-set}
+use lib.Seq.{take-nil, drop-cons, set-at}
+use Rattle.text.specs.Piece.{pieceLength}
+use Rattle.value.specs.Field.{Field, fieldAt, numberField, numberAnswer, numberFault}
+use Rattle.block.specs.Block.{Reading, andThen, readFields, numberFields, keysOf, placedFields, BlockRead}
+use Rattle.text.specs.declared.refusal.Fault.{Fault}
+use Rattle.value.specs.declared.number.NumberLine.{NumberLine}
+use Rattle.value.specs.declared.number.NumberLine.the-variants as number-line
+use Rattle.block.specs.declared.read.Block.the-variants as block
+use Rattle.text.proofs.Pieces.{piece-none, piece-next, piece-fits}
+
+-- the lines of a schema from a key on, i lines standing before
+abbrev pub fieldsFrom : List ℕ → List ℤ → List ℤ → ℕ → ℕ → List (Field ℤ)
+fieldsFrom keys lows highs from i = numberFields (keysOf (drop from keys)) (drop i lows) (drop i highs)
+
+no-lows : (keys : List (List ℕ)) (highs : List ℤ) → numberFields keys [] highs ≡ []
+unfolding numberFields
+no-lows [] highs = refl
+no-lows (key ∷ keys) highs = refl
+
+no-highs : (keys : List (List ℕ)) (lows : List ℤ) → numberFields keys lows [] ≡ []
+unfolding numberFields
+no-highs [] lows = refl
+no-highs (key ∷ keys) [] = refl
+no-highs (key ∷ keys) (low ∷ lows) = refl
+
+module _ (keys : List ℕ) (lows highs : List ℤ) (from i : ℕ) where
+  pub fields-lows : length lows ≤ i → fieldsFrom keys lows highs from i ≡ []
+  fields-lows h = rw (drop-of-length-le lows {i = i} h) (no-lows (keysOf (drop from keys)) (drop i highs))
+
+  pub fields-highs : length highs ≤ i → fieldsFrom keys lows highs from i ≡ []
+  fields-highs h = rw (drop-of-length-le highs {i = i} h) (no-highs (keysOf (drop from keys)) (drop i lows))
+
+  module _ (end : ℕ) (ends : end ≡ from + pieceLength 61 (drop from keys)) where
+    pub fields-keys : end ≡ from → fieldsFrom keys lows highs from i ≡ []
+    unfolding numberFields
+    fields-keys e = rw (piece-none 61 keys from end ends e)
+
+    pub fields-next :
+        (d : ℤ) → (end ≡ from → ⊥) → i < length lows → i < length highs →
+        fieldsFrom keys lows highs from i ≡
+        numberField (take (end - from) (drop from keys)) (getD lows i d) (getD highs i d) ∷ fieldsFrom keys lows highs end (i + 1)
+    unfolding numberFields
+    fields-next d n l h = rw (piece-next 61 keys from end ends n, drop-cons lows i d l, drop-cons highs i d h, add-one)
+
+-- values read before a reading
+abbrev pub inFront : List ℤ → Reading ℤ → Reading ℤ
+inFront values reading = record { values = values ++ reading .values; end = reading .end }
+
+-- reading is under way: the values so far stand in the first places, and the lines from the next key on are due at the position
+pub record BlockFrom (text : List ℕ) (at : ℕ) (keys : List ℕ) (lows highs places out : List ℤ) (next from i : ℕ) : Type 0 where
+  pub values : List ℤ
+  pub counted : length values ≡ i
+  pub within : from ≤ length keys
+  pub long : length out ≡ length places
+  pub laid : out ≡ values ++ drop i places
+  pub rest :
+      readFields (placedFields keys lows highs places) text at ≡
+      inFront values (readFields (take (length places - i) (fieldsFrom keys lows highs from i)) text next)
+
+pub block-start :
+    (text : List ℕ) (at : ℕ) (keys : List ℕ) (lows highs places : List ℤ) → BlockFrom text at keys lows highs places places at 0 0
+block-start text at keys lows highs places = record { values = []; counted = refl; within = omega arith; long = refl; laid = refl; rest = rw sub-zero }
+
+module _
+    {text : List ℕ} {at : ℕ} {keys : List ℕ} {lows highs places out : List ℤ} {next from i : ℕ}
+    (so-far : BlockFrom text at keys lows highs places out next from i) where
+  block-over : take (length places - i) (fieldsFrom keys lows highs from i) ≡ [] → BlockRead text at keys lows highs places out (block.Read next)
+  unfolding readFields
+  block-over e = record { ends = rw (so-far .rest, e); filled = rw (so-far .rest, e, append-nil, so-far .counted) (so-far .laid) }
+
+  pub block-places : length places ≤ i → BlockRead text at keys lows highs places out (block.Read next)
+  block-places h = let e : length places - i ≡ 0 = omega arith in block-over (rw e)
+
+  pub block-lows : length lows ≤ i → BlockRead text at keys lows highs places out (block.Read next)
+  block-lows h = block-over (rw (fields-lows keys lows highs from i h, take-nil))
+
+  pub block-highs : length highs ≤ i → BlockRead text at keys lows highs places out (block.Read next)
+  block-highs h = block-over (rw (fields-highs keys lows highs from i h, take-nil))
+
+  module _ {end : ℕ} (ends : end ≡ from + pieceLength 61 (drop from keys)) where
+    pub block-keys : end ≡ from → BlockRead text at keys lows highs places out (block.Read next)
+    block-keys e = block-over (rw (fields-keys keys lows highs from i end ends e, take-nil))
+
+    -- one more line is due, and is read as a number within its bounds
+    module _
+        {low high : ℤ} (line : NumberLine) (d : ℤ) (n : end ≡ from → ⊥)
+        (p : i < length places) (l : i < length lows) (h : i < length highs) (low-is : low ≡ getD lows i d) (high-is : high ≡ getD highs i d)
+        (answers : numberAnswer line ≡ fieldAt (numberField (take (end - from) (drop from keys)) low high) text next) where
+      due :
+          readFields (placedFields keys lows highs places) text at ≡
+          inFront (so-far .values) (andThen (numberAnswer line) (λ after. readFields (take (length places - (i + 1)) (fieldsFrom keys lows highs end (i + 1))) text after))
+      unfolding readFields
+      due =
+          let e : length places - i ≡ suc (length places - (i + 1)) = omega arith in
+          rw (so-far .rest, fields-next keys lows highs from i end ends d n l h, e, answers, low-is, high-is)
+
+      pub block-refused :
+          {fault found : Fault} → line ≡ number-line.Refused fault → found ≡ numberFault line →
+          BlockRead text at keys lows highs places out (block.Refused found)
+      block-refused told is = record { ends = rw (due, is, told); filled = rw (due, told, append-nil, so-far .counted) (so-far .laid) }
+
+      pub block-more :
+          {value : ℤ} {after : ℕ} → line ≡ number-line.Value value after →
+          BlockFrom text at keys lows highs places (set out i value) after end (i + 1)
+      block-more {value} told =
+          record {
+            values = so-far .values ++ (value ∷ []);
+            counted = length-append (so-far .values) (value ∷ []) ∙ ap (λ (n : ℕ). n + 1) (so-far .counted);
+            within = piece-fits 61 keys from end ends (so-far .within);
+            long = length-set out i value ∙ so-far .long;
+            laid =
+                rw (
+                  so-far .laid,
+                  drop-cons places i d p,
+                  set-at (so-far .values) (getD places i d) (drop (suc i) places) value i (so-far .counted),
+                  append-assoc,
+                  add-one,
+                );
+            rest = rw (due, told, append-assoc);
+          }

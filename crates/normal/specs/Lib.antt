@@ -1,0 +1,2 @@
+pub mod Knot
+pub mod Normal
