@@ -1,5 +1,7 @@
 -- Laws that the proofs of several functions share, and that crates above cite; the proofs of the named statements of specs/Promises.antt.
 pub mod Blocks
+pub mod Shifted
+pub mod Readings
 pub mod WrittenDigits
 pub mod RoundTrip
 pub mod Values

@@ -27,7 +27,7 @@ fn is_id_byte(byte: u8) -> bool
 }
 
 // Whether a value's bytes are an id.
-pub fn is_id(value: &[u8]) -> bool
+pub(crate) fn is_id(value: &[u8]) -> bool
     ensures { λ r. ⌜ r ≡ isId (now (value .entry)) ⌝ }
 {
     if value.len() == 0 {

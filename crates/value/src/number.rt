@@ -100,7 +100,7 @@ fn ranged(z: i64, low: i64, high: i64) -> Number
 }
 
 // A value's bytes read as a number from low to high.
-pub fn number_in(value: &[u8], low: i64, high: i64) -> Number
+pub(crate) fn number_in(value: &[u8], low: i64, high: i64) -> Number
     ensures { λ r. ⌜ r ≡ numberIn low high (now (value .entry)) ⌝ }
 {
     if value.len() == 0 {

@@ -42,7 +42,7 @@ fn is_word(value: &[u8], word: &[u8]) -> bool
 }
 
 // A value's bytes as one of the words, each ended by byte 10.
-pub fn word_in(value: &[u8], words: &[u8]) -> Word
+pub(crate) fn word_in(value: &[u8], words: &[u8]) -> Word
     ensures { λ r. ⌜ r ≡ wordIn (now (words .entry)) (now (value .entry)) ⌝ }
 {
     let mut from: usize = 0;

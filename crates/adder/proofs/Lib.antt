@@ -1,0 +1,4 @@
+pub mod Accepted
+pub mod Bounds
+pub mod Examples
+pub mod Order

@@ -1,0 +1,23 @@
+use mir.Facts.{toZ-ofZ}
+use Rattle.integer.specs.Order.{maxℤ}
+use Rattle.integer.proofs.Order.{le-leZ, lt-leZ}
+use Rattle.integer.proofs.Signed.{at-most-taken, at-most-left}
+use Rattle.adder.proofs.reserve.higher.Statement.{statement}
+use Rattle.adder.proofs.reserve.higher.Tie as tie
+
+returns : tie.Need-returns
+unfolding maxℤ
+returns c =
+    let a = c .before .args in
+    let f = c .before .fits in
+    rw (toZ-ofZ (f .y), le-leZ (at-most-taken (a .x) (a .y) (f .x) (f .y) (c .if1 .taken)))
+
+returns-2 : tie.Need-returns-2
+unfolding maxℤ
+returns-2 c =
+    let a = c .before .args in
+    let f = c .before .fits in
+    rw (toZ-ofZ (f .x), lt-leZ (at-most-left (a .x) (a .y) (f .x) (f .y) (c .if1 .left)))
+
+pub higher-spec : {M : Type 1} → statement M
+higher-spec = tie.close (tie.spec returns returns-2)

@@ -1,0 +1,48 @@
+-- The one argument on prices, over sums and header numbers: neither price rises when a sum is not lower, PRC is not lower, `short` is not higher, and the mean is
+-- not higher. Off-line ≤ on-line ≤ max(0, VOLL - lambda).
+use Prim.Native.Nat.{ℕ, _≤_}
+use mathlib.Core.Path.{_≡_}
+use mathlib.Core.Bool.{true}
+use lib.IntN.{ℤ, pos}
+use lib.Signed.{_≤ℤ_}
+use Rattle.curve.specs.declared.curves.CurveSet.{CurveSet}
+use Rattle.adder.specs.Price.{pairFor, pricesOf, valueOfReserve}
+use Rattle.adder.specs.declared.sums.Sums.{Sums}
+use Rattle.adder.specs.declared.sums.Header.{Header}
+
+-- no sum of the second is lower
+pub record SumsNotLower (first second : Sums) : Type 0 where
+  pub generation : first .generation ≤ℤ second .generation
+  pub controllable : first .controllable ≤ℤ second .controllable
+  pub offline : first .offline ≤ℤ second .offline
+  pub validated : first .validated ≤ℤ second .validated
+  pub responsive : first .responsive ≤ℤ second .responsive
+
+-- month, hour, lambda, factor, eea1 and count are equal, PRC is not lower, `short` is not higher
+pub record HeaderRaised (first second : Header) : Type 0 where
+  pub month : first .month ≡ second .month
+  pub hour : first .hour ≡ second .hour
+  pub lambda : first .lambda ≡ second .lambda
+  pub factor : first .factor ≡ second .factor
+  pub prc : first .prc ≤ℤ second .prc
+  pub eea1 : first .eea1 ≡ second .eea1
+  pub short : second .short ≤ℤ first .short
+  pub count : first .count ≡ second .count
+
+-- VOLL and X are equal; the mean of the header's group is not higher, its spread equal
+pub record CurvesLowered (h : Header) (first second : CurveSet) : Type 0 where
+  pub voll : first .voll ≡ second .voll
+  pub floor : first .floor ≡ second .floor
+  pub mean : pairFor second h .mean ≤ℤ pairFor first h .mean
+  pub spread : pairFor first h .spread ≡ pairFor second h .spread
+
+abbrev pub MoreReserveNeverRaisesPrices : Type 0
+MoreReserveNeverRaisesPrices =
+    (first second : CurveSet) (h h′ : Header) (s s′ : Sums) → pos 0 ≤ℤ h .factor → pos 0 ≤ℤ s .offline → HeaderRaised h h′ → CurvesLowered h first second →
+    SumsNotLower s s′ →
+    (pricesOf second h′ s′ .online ≤ pricesOf first h s .online) × (pricesOf second h′ s′ .offline ≤ pricesOf first h s .offline)
+
+abbrev pub OfflineOnlineValue : Type 0
+OfflineOnlineValue =
+    (curves : CurveSet) (h : Header) (s : Sums) →
+    (pricesOf curves h s .offline ≤ pricesOf curves h s .online) × (pricesOf curves h s .online ≤ valueOfReserve curves h)

@@ -1,0 +1,4 @@
+// Reserves and the two prices from sums and header numbers.
+pub mod price;
+mod reserve;
+pub mod sums;

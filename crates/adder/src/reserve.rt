@@ -1,0 +1,68 @@
+// The load cap, the discount factor, RS and RSNS, in kW.
+ghost use Prim.Native.Nat.{_≤_};
+ghost use mathlib.Core.Path.{_≡_};
+ghost use mathlib.Core.Bool.{true};
+ghost use lib.IntN.{natAbs};
+ghost use Rattle.integer.specs.Order.{minℤ, maxℤ};
+ghost use Rattle.adder.specs.Sums.{sumsPossible, headerFault};
+ghost use Rattle.adder.specs.Reserve.{twiceLoads, twiceOnline, discounted, onlineReserve, totalReserve};
+use crate::sums::Header;
+use crate::sums::Sums;
+use integer::floor_div;
+
+// The lower of two numbers.
+fn lower(x: i64, y: i64) -> i64
+    ensures { λ r. ⌜ r ≡ minℤ x y ⌝ }
+{
+    if x <= y { x } else { y }
+}
+
+// The higher of two numbers.
+pub(crate) fn higher(x: i64, y: i64) -> i64
+    ensures { λ r. ⌜ r ≡ maxℤ x y ⌝ }
+{
+    if x <= y { y } else { x }
+}
+
+// Twice L: the half kW of the cap is lost only in the floor of the reserve.
+fn twice_loads(sums: Sums) -> i64
+    requires { ⌜ sumsPossible sums ≡ true ⌝ }
+    ensures { λ r. ⌜ r ≡ twiceLoads sums ⌝ }
+{
+    lower(2 * higher(sums.validated, 0), 3 * sums.responsive)
+}
+
+// Twice G + C + L.
+fn twice_online(sums: Sums) -> i64
+    requires { ⌜ sumsPossible sums ≡ true ⌝ }
+    ensures { λ r. ⌜ r ≡ twiceOnline sums ⌝ }
+{
+    2 * (sums.generation + sums.controllable) + twice_loads(sums)
+}
+
+// Factor, under-generation and floor, from twice the reserve.
+fn reserve_of(header: Header, twice: i64) -> i64
+    requires { ⌜ headerFault header ≡ 0 ⌝ ∗ ⌜ natAbs twice ≤ 200000000000 ⌝ }
+    ensures { λ r. ⌜ r ≡ discounted header twice ⌝ }
+{
+    floor_div(header.factor * twice - 20000 * header.short, 20000)
+}
+
+// RS.
+pub(crate) fn online_reserve(header: Header, sums: Sums) -> i64
+    requires { ⌜ headerFault header ≡ 0 ⌝ ∗ ⌜ sumsPossible sums ≡ true ⌝ }
+    ensures { λ r. ⌜ r ≡ onlineReserve header sums ⌝ }
+{
+    reserve_of(header, twice_online(sums))
+}
+
+// RSNS.
+pub(crate) fn total_reserve(header: Header, sums: Sums) -> i64
+    requires { ⌜ headerFault header ≡ 0 ⌝ ∗ ⌜ sumsPossible sums ≡ true ⌝ }
+    ensures { λ r. ⌜ r ≡ totalReserve header sums ⌝ }
+{
+    if header.prc <= header.eea1 {
+        return online_reserve(header, sums);
+    }
+    reserve_of(header, twice_online(sums) + 2 * sums.offline)
+}

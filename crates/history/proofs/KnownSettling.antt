@@ -1,0 +1,18 @@
+-- The known values of settling hold, by computation, beside those on the normal table and the probabilities.
+use mathlib.Core.Path.{_≡_, refl}
+use Rattle.integer.specs.Floor.{floorDiv}
+use Rattle.integer.specs.Quadratic.{quadratic}
+use Rattle.integer.specs.Root.{raised, rootIn, rootOf}
+use Rattle.curve.specs.Curves.{pairValues}
+use Rattle.curve.specs.Known.{AllHold, knownValues}
+use Rattle.curve.proofs.KnownValues.{known-values, all-append}
+use Rattle.history.specs.Record.{withError, meanOf, squaresAround, possible, allPossible}
+use Rattle.history.specs.Settle.{spreadOf, pairOf, settledGroups, settled}
+use Rattle.history.specs.Known.{settledValues, knownSettling}
+
+settled-values : AllHold settledValues
+unfolding settledValues floorDiv quadratic raised rootIn rootOf withError meanOf squaresAround possible allPossible spreadOf pairOf settledGroups settled pairValues
+settled-values = refl
+
+pub known-settling : AllHold knownSettling
+known-settling = all-append knownValues settledValues known-values settled-values

@@ -1,0 +1,59 @@
+-- Named statements on bookings and settling: what demand 3 rests on.
+use Prim.Native.Nat.{ℕ, _<_}
+use mathlib.Core.Path.{_≡_}
+use mathlib.Core.Bool.{true}
+use mathlib.Core.List.{List, [], _∷_}
+use lib.IntN.{ℤ, pos, _-ℤ_}
+use Rattle.text.specs.declared.refusal.Refusal.{Refusal}
+use Rattle.curve.specs.Curves.{curvesInRange}
+use Rattle.hour.specs.Hour.{Hour, Run, HourAnswer, read, hourIn, hourAhead}
+use Rattle.history.specs.Record.{fresh, groupAt, meanOf, allPossible, booked}
+use Rattle.history.specs.Settle.{spreadOf, settled}
+use Rattle.curve.specs.declared.answer.Answer.{Answer}
+use Rattle.curve.specs.declared.answer.Answer.the-variants as answer
+use Rattle.history.specs.declared.record.Record.{Record}
+
+-- ---- a list of bookings: each gets the record that the one before returned
+
+unfoldable pub bookedAll : Record → List (List ℕ) → Record
+bookedAll history [] = history
+bookedAll history (text ∷ texts) = bookedAll (booked history text .history) texts
+
+-- a record made by any bookings from the fresh one is never impossible (1)
+abbrev pub BookedRecordsArePossible : Type 0
+BookedRecordsArePossible = (texts : List (List ℕ)) → allPossible (bookedAll fresh texts .groups) ≡ true
+
+-- a settled curve set is in range
+abbrev pub SettledCurvesAreInRange : Type 0
+SettledCurvesAreInRange =
+    (history : Record) (voll floor : ℤ) → settled history voll floor .answer ≡ answer.Accepted → curvesInRange (settled history voll floor .set) ≡ true
+
+-- ---- two lists of bookings, the second with every hour-ahead reserve lower by the same whole number of kW
+
+-- month, hour, shed, `runs` and all run fields are equal; the hour-ahead fields may differ in any way that makes HA lower by d
+pub data HourLowered (d : ℕ) : HourAnswer → HourAnswer → Type 0 where
+  hour-lowered :
+      (first second : Hour) (runs : List Run) → first .month ≡ second .month → first .hour ≡ second .hour → first .shed ≡ second .shed →
+      first .runs ≡ second .runs → hourAhead second ≡ hourAhead first -ℤ pos d → HourLowered d (read first runs) (read second runs)
+
+-- one place of the two lists: a booking refused in one is refused in the other, texts and numbers may differ; any other place is lowered
+pub data PlaceLowered (d : ℕ) (first second : List ℕ) : Answer → Answer → Type 0 where
+  both-refused : (found other : Refusal) → PlaceLowered d first second (answer.Refused found) (answer.Refused other)
+  both-accepted : HourLowered d (hourIn first) (hourIn second) → PlaceLowered d first second answer.Accepted answer.Accepted
+
+-- equally long lists, each from its own record on
+abbrev pub ListsLowered : ℕ → Record → Record → List (List ℕ) → List (List ℕ) → Type 0
+ListsLowered d history history′ [] [] = Unit
+ListsLowered d history history′ [] (text′ ∷ texts′) = ⊥
+ListsLowered d history history′ (text ∷ texts) [] = ⊥
+ListsLowered d history history′ (text ∷ texts) (text′ ∷ texts′) =
+    PlaceLowered d text text′ (booked history text .answer) (booked history′ text′ .answer)
+    × ListsLowered d (booked history text .history) (booked history′ text′ .history) texts texts′
+
+-- each mean falls by d and each spread is equal
+abbrev pub LoweredErrorsLowerMeans : Type 0
+LoweredErrorsLowerMeans =
+    (d : ℕ) (texts texts′ : List (List ℕ)) → ListsLowered d fresh fresh texts texts′ → (g : ℕ) →
+    let first = groupAt (bookedAll fresh texts) g in
+    let second = groupAt (bookedAll fresh texts′) g in
+    (first .count ≡ second .count) × (0 < first .count → (meanOf second ≡ meanOf first -ℤ pos d) × (spreadOf second ≡ spreadOf first))

@@ -1,0 +1,2 @@
+// History to curves: the record of reserve errors by group, booking an hour, and settling.
+pub mod record;

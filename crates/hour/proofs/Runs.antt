@@ -1,0 +1,244 @@
+-- The runs of an hour, read one after the other: their sum so far, and how far it can go.
+use Prim.Native.Nat.{ℕ, zero, suc, _+_, _-_, _*_, _≤_, _<_}
+use native.Mathlib.Nat.{sub-zero}
+use native.Mathlib.Omega.{arith}
+use mathlib.Core.List.{List, [], _∷_, _++_}
+use mathlib.Core.Path.{_≡_, refl, sym, ap, _∙_}
+use lib.IntN.{ℤ, pos, natAbs, _+ℤ_, _-ℤ_, +ℤ-assoc, +ℤ-idl, +ℤ-idr}
+use lib.ListN.{length, replicate, drop, List·getD-append}
+use lib.Seq.{drop-at}
+use mir.Syntax.{w64}
+use mir.Val.{SFits, toZ, ofZ}
+use mir.Facts.{toZ-ofZ}
+use Rattle.integer.proofs.Bounds.{abs-add, abs-sub, abs-fits}
+use Rattle.text.specs.Piece.{piecesFrom}
+use Rattle.text.specs.Bytes.{bytes}
+use Rattle.block.specs.Block.{Reading, readFields, repeated, numberFields, keysOf, placedFields, BlockRead, value, blockFault}
+use Rattle.text.specs.declared.refusal.Fault.{Fault}
+use Rattle.block.specs.declared.read.Block.{Block}
+use Rattle.block.specs.declared.read.Block.the-variants as block
+use Rattle.hour.specs.Hour.{Run, runFields, runOf, runsOf, scedReserve, scedSum, intervalsOf, intervalsIn, intervalFault, Bounded}
+use Rattle.hour.specs.declared.read.Intervals.{Intervals}
+use Rattle.hour.specs.declared.read.Intervals.the-variants as intervals
+use Rattle.block.proofs.Shifted.{reading-within}
+use Rattle.block.proofs.Readings.{reading-append, reading-length, block-ends, block-values, values-bounded}
+
+pub runs-length : (n : ℕ) (values : List ℤ) → length (runsOf n values) ≡ n
+unfolding runsOf
+runs-length zero values = refl
+runs-length (suc n) values = ap suc (runs-length n (drop 9 values))
+
+-- a bounded value as the machine holds it
+pub bounded-fits : (values : List ℤ) → Bounded 100000000 values → (place : ℕ) → SFits w64 (value values place)
+bounded-fits values b place = omega (arith, abs-fits, b place)
+
+pub held : (values : List ℤ) → Bounded 100000000 values → (place : ℕ) → toZ w64 (ofZ w64 (value values place)) ≡ value values place
+held values b place = toZ-ofZ (bounded-fits values b place)
+
+-- ---- the values of one run
+
+abbrev pub runKeys : List ℕ
+runKeys = bytes "hsl=base=rrs=nclr=reg=ns=offns=cold30=short="
+
+pub run-schema : numberFields (keysOf runKeys) (replicate 9 (pos 0)) (replicate 9 (pos 100000000)) ≡ runFields
+unfolding numberFields piecesFrom bytes runFields
+run-schema = refl
+
+pub run-places : placedFields runKeys (replicate 9 (pos 0)) (replicate 9 (pos 100000000)) (replicate 9 (pos 0)) ≡ runFields
+unfolding numberFields piecesFrom bytes runFields
+run-places = refl
+
+pub run-count : length runFields ≡ 9
+unfolding runFields
+run-count = refl
+
+module _ (part : List ℕ) (at next : ℕ) (e : readFields runFields part at .end ≡ block.Read next) where
+  pub run-values : length (readFields runFields part at .values) ≡ 9
+  run-values = reading-length runFields part at next e ∙ run-count
+
+  pub run-bounded : Bounded 100000000 (readFields runFields part at .values)
+  run-bounded place =
+      rw (← run-schema)
+      (values-bounded 100000000 (keysOf runKeys) (replicate 9 (pos 0)) (replicate 9 (pos 100000000)) refl refl part at next (rw run-schema e) place)
+
+pub sced-bounded : (values : List ℤ) → Bounded 100000000 values → natAbs (scedReserve (runOf values)) ≤ 900000000
+unfolding scedReserve
+sced-bounded values b =
+    sums
+    (value values 0)
+    (value values 1)
+    (value values 2)
+    (value values 3)
+    (value values 4)
+    (value values 5)
+    (value values 6)
+    (value values 7)
+    (value values 8)
+    (b 0)
+    (b 1)
+    (b 2)
+    (b 3)
+    (b 4)
+    (b 5)
+    (b 6)
+    (b 7)
+    (b 8)
+  where
+    small : ℤ → Type 0
+    small z = natAbs z ≤ 100000000
+
+    sums :
+        (p q r s t u v w x : ℤ) → small p → small q → small r → small s → small t → small u → small v → small w → small x →
+        natAbs (p -ℤ q +ℤ r +ℤ s +ℤ t +ℤ u +ℤ v +ℤ w -ℤ x) ≤ 900000000
+    sums p q r s t u v w x h0 h1 h2 h3 h4 h5 h6 h7 h8 =
+        omega (
+          arith,
+          abs-sub p q,
+          abs-add (p -ℤ q) r,
+          abs-add (p -ℤ q +ℤ r) s,
+          abs-add (p -ℤ q +ℤ r +ℤ s) t,
+          abs-add (p -ℤ q +ℤ r +ℤ s +ℤ t) u,
+          abs-add (p -ℤ q +ℤ r +ℤ s +ℤ t +ℤ u) v,
+          abs-add (p -ℤ q +ℤ r +ℤ s +ℤ t +ℤ u +ℤ v) w,
+          abs-sub (p -ℤ q +ℤ r +ℤ s +ℤ t +ℤ u +ℤ v +ℤ w) x,
+        )
+
+-- a run as the reader of blocks gives it
+module _
+    {part : List ℕ} {at : ℕ} {values : List ℤ} {ended : Block}
+    (read : BlockRead part at runKeys (replicate 9 (pos 0)) (replicate 9 (pos 100000000)) (replicate 9 (pos 0)) values ended) where
+  pub run-ends : ended ≡ readFields runFields part at .end
+  run-ends = block-ends runFields run-places run-count read
+
+  pub run-filled : (next : ℕ) → ended ≡ block.Read next → values ≡ readFields runFields part at .values
+  run-filled = block-values runFields run-places run-count read
+
+  module _ (next : ℕ) (e : ended ≡ block.Read next) where
+    pub run-held : Bounded 100000000 values
+    run-held place = rw (run-filled next e) (run-bounded part at next (sym run-ends ∙ e) place)
+
+    pub run-small : natAbs (scedReserve (runOf values)) ≤ 900000000
+    run-small = sced-bounded values run-held
+
+-- ---- one run more
+
+-- the runs from a position on, and a sum that stands before them
+abbrev pub intervalsFrom : ℕ → List ℕ → ℕ → Intervals
+intervalsFrom n part at = intervalsOf n (readFields (repeated n runFields) part at)
+
+abbrev pub withSum : ℤ → Intervals → Intervals
+withSum sum (intervals.Sum other next) = intervals.Sum (sum +ℤ other) next
+withSum sum (intervals.Refused found) = intervals.Refused found
+
+with-sums : (first second : ℤ) (others : Intervals) → withSum first (withSum second others) ≡ withSum (first +ℤ second) others
+with-sums first second (intervals.Sum other next) = rw (+ℤ-assoc first second other)
+with-sums first second (intervals.Refused found) = refl
+
+no-sum : (others : Intervals) → others ≡ withSum (pos 0) others
+no-sum (intervals.Sum other next) = rw (+ℤ-idl other)
+no-sum (intervals.Refused found) = refl
+
+run-first : (values others : List ℤ) → length values ≡ 9 → runOf (values ++ others) ≡ runOf values
+run-first values others e =
+    let first : (place : ℕ) → place < 9 → value (values ++ others) place ≡ value values place = λ place h. List·getD-append values others (pos 0) place (omega arith) in
+    rw (
+      first 0 (omega arith),
+      first 1 (omega arith),
+      first 2 (omega arith),
+      first 3 (omega arith),
+      first 4 (omega arith),
+      first 5 (omega arith),
+      first 6 (omega arith),
+      first 7 (omega arith),
+      first 8 (omega arith),
+    )
+
+module _ (n : ℕ) (part : List ℕ) (at : ℕ) where
+  run-read :
+      (next : ℕ) → readFields runFields part at .end ≡ block.Read next →
+      intervalsFrom (suc n) part at ≡ withSum (scedReserve (runOf (readFields runFields part at .values))) (intervalsFrom n part next)
+  unfolding repeated runsOf scedSum
+  run-read next e = rw (reading-append runFields (repeated n runFields) part at, e) (go (readFields (repeated n runFields) part next))
+    where
+      values : List ℤ
+      values = readFields runFields part at .values
+
+      go : (others : Reading ℤ) → intervalsOf (suc n) (record { values = values ++ others .values; end = others .end }) ≡ withSum (scedReserve (runOf values)) (intervalsOf n others)
+      go others = by-end (others .end) refl
+        where
+          by-end : (end : Block) → others .end ≡ end → intervalsOf (suc n) (record { values = values ++ others .values; end = others .end }) ≡ withSum (scedReserve (runOf values)) (intervalsOf n others)
+          by-end (block.Read after) h = rw (h, run-first values (others .values) (run-values part at next e), drop-at values (others .values) 9 (run-values part at next e))
+          by-end (block.Refused found) h = rw h
+
+  run-refused : (found : Fault) → readFields runFields part at .end ≡ block.Refused found → intervalsFrom (suc n) part at ≡ intervals.Refused found
+  unfolding repeated
+  run-refused found e = rw (reading-append runFields (repeated n runFields) part at, e)
+
+-- ---- bounds
+
+abbrev pub sumSize : Intervals → ℕ
+sumSize (intervals.Sum sum next) = natAbs sum
+sumSize (intervals.Refused found) = 0
+
+pub runs-bounded : (n : ℕ) (part : List ℕ) (at : ℕ) → sumSize (intervalsFrom n part at) ≤ n * 900000000
+unfolding repeated readFields runsOf scedSum
+runs-bounded zero part at = omega arith
+runs-bounded (suc n) part at = go (readFields runFields part at .end) refl (runs-bounded n part)
+  where
+    more : (reserve : ℤ) (others : Intervals) → natAbs reserve ≤ 900000000 → sumSize others ≤ n * 900000000 → sumSize (withSum reserve others) ≤ suc n * 900000000
+    more reserve (intervals.Sum sum next) h k = omega (arith, abs-add reserve sum)
+    more reserve (intervals.Refused found) h k = omega arith
+
+    go : (end : Block) → readFields runFields part at .end ≡ end → ((at : ℕ) → sumSize (intervalsFrom n part at) ≤ n * 900000000) → sumSize (intervalsFrom (suc n) part at) ≤ suc n * 900000000
+    go (block.Read next) e again =
+        rw (run-read n part at next e)
+        (more (scedReserve (runOf (readFields runFields part at .values))) (intervalsFrom n part next) (sced-bounded (readFields runFields part at .values) (run-bounded part at next e)) (again next))
+    go (block.Refused found) e again = rw (run-refused n part at found e) (omega arith)
+
+pub runs-within : (n : ℕ) (part : List ℕ) → intervalFault (intervalsIn n part) .at ≤ length part
+runs-within n part = go (readFields (repeated n runFields) part 0) (reading-within part (repeated n runFields) 0 (omega arith))
+  where
+    go : (reading : Reading ℤ) → blockFault (reading .end) .at ≤ length part → intervalFault (intervalsOf n reading) .at ≤ length part
+    go reading h = by-end (reading .end) refl h
+      where
+        by-end : (end : Block) → reading .end ≡ end → blockFault end .at ≤ length part → intervalFault (intervalsOf n reading) .at ≤ length part
+        by-end (block.Read next) e h = rw e h
+        by-end (block.Refused found) e h = rw e h
+
+-- ---- the loop: i runs are read, and those that are left start at a position
+
+pub record RunsRead (runs : ℕ) (part : List ℕ) (sum : ℤ) (next i : ℕ) : Type 0 where
+  pub some : i ≤ runs
+  pub small : natAbs sum ≤ i * 900000000
+  pub rest : intervalsIn runs part ≡ withSum sum (intervalsFrom (runs - i) part next)
+
+pub runs-start : (runs : ℕ) (part : List ℕ) → RunsRead runs part (pos 0) 0 0
+runs-start runs part = record { some = omega arith; small = omega arith; rest = rw sub-zero (no-sum (intervalsIn runs part)) }
+
+module _ {runs : ℕ} {part : List ℕ} {sum : ℤ} {next i : ℕ} (so-far : RunsRead runs part sum next i) where
+  pub runs-over : runs ≤ i → intervals.Sum sum next ≡ intervalsIn runs part
+  unfolding repeated readFields runsOf scedSum
+  runs-over h =
+      let none : runs - i ≡ 0 = omega arith in
+      rw (so-far .rest, none, +ℤ-idr sum)
+
+  module _ (h : i < runs) where
+    one-less : runs - i ≡ suc (runs - (i + 1))
+    one-less = omega arith
+
+    pub runs-refused : (found : Fault) → readFields runFields part next .end ≡ block.Refused found → intervals.Refused found ≡ intervalsIn runs part
+    runs-refused found e = rw (so-far .rest, one-less, run-refused (runs - (i + 1)) part next found e)
+
+    pub runs-more : (after : ℕ) → readFields runFields part next .end ≡ block.Read after → RunsRead runs part (sum +ℤ scedReserve (runOf (readFields runFields part next .values))) after (i + 1)
+    runs-more after e =
+        record {
+          some = omega arith;
+          small =
+              omega (
+                arith,
+                so-far .small,
+                abs-add sum (scedReserve (runOf (readFields runFields part next .values))),
+                sced-bounded (readFields runFields part next .values) (run-bounded part next after e),
+              );
+          rest = rw (so-far .rest, one-less, run-read (runs - (i + 1)) part next after e) (with-sums sum (scedReserve (runOf (readFields runFields part next .values))) (intervalsFrom (runs - (i + 1)) part after));
+        }
