@@ -35,6 +35,9 @@ bounded-fits values b place = omega (arith, abs-fits, b place)
 pub held : (values : List ℤ) → Bounded 100000000 values → (place : ℕ) → toZ w64 (ofZ w64 (value values place)) ≡ value values place
 held values b place = toZ-ofZ (bounded-fits values b place)
 
+pub held-small : (values : List ℤ) → Bounded 100000000 values → (place : ℕ) → natAbs (toZ w64 (ofZ w64 (value values place))) ≤ 100000000
+held-small values b place = rw (held values b place) (b place)
+
 -- ---- the values of one run
 
 abbrev pub runKeys : List ℕ

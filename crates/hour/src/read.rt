@@ -47,12 +47,27 @@ enum Intervals {
     Refused(Fault),
 }
 
+// Two terms added, and one subtracted from the other.
+fn more(a: i64, b: i64) -> i64
+    requires { ⌜ (natAbs a ≤ 2000000000) × (natAbs b ≤ 2000000000) ⌝ }
+    ensures { λ r. ⌜ (r ≡ a +ℤ b) × (natAbs r ≤ natAbs a + natAbs b) ⌝ }
+{
+    a + b
+}
+
+fn less(a: i64, b: i64) -> i64
+    requires { ⌜ (natAbs a ≤ 2000000000) × (natAbs b ≤ 2000000000) ⌝ }
+    ensures { λ r. ⌜ (r ≡ a -ℤ b) × (natAbs r ≤ natAbs a + natAbs b) ⌝ }
+{
+    a - b
+}
+
 // A reserve and three more terms of it.
 fn with_three(reserve: i64, first: i64, second: i64, third: i64) -> i64
     requires { ⌜ (natAbs reserve ≤ 600000000) × (natAbs first ≤ 100000000) × (natAbs second ≤ 100000000) × (natAbs third ≤ 100000000) ⌝ }
-    ensures { λ r. ⌜ r ≡ reserve +ℤ first +ℤ second +ℤ third ⌝ }
+    ensures { λ r. ⌜ (r ≡ reserve +ℤ first +ℤ second +ℤ third) × (natAbs r ≤ natAbs reserve + 300000000) ⌝ }
 {
-    reserve + first + second + third
+    more(more(more(reserve, first), second), third)
 }
 
 // HA of an hour's values.
@@ -60,7 +75,8 @@ fn hour_ahead(v: [i64; 13]) -> i64
     requires { ⌜ Bounded 100000000 v ⌝ }
     ensures { λ r. ⌜ r ≡ hourAhead (hourOf v) ⌝ }
 {
-    let on_line = with_three(v[2] - v[3] - v[4], v[5], v[6], v[7]);
+    let net = less(less(v[2], v[3]), v[4]);
+    let on_line = with_three(net, v[5], v[6], v[7]);
     with_three(on_line, v[8], v[9], v[10])
 }
 
@@ -69,16 +85,16 @@ fn sced_reserve(v: [i64; 9]) -> i64
     requires { ⌜ Bounded 100000000 v ⌝ }
     ensures { λ r. ⌜ r ≡ scedReserve (runOf v) ⌝ }
 {
-    let on_line = with_three(v[0] - v[1], v[2], v[3], v[4]);
-    with_three(on_line, v[5], v[6], v[7]) - v[8]
+    let on_line = with_three(less(v[0], v[1]), v[2], v[3], v[4]);
+    less(with_three(on_line, v[5], v[6], v[7]), v[8])
 }
 
 // The reserve error, given the mean of SCED over the runs.
 fn reserve_error(ahead: i64, mean: i64, shed: i64) -> i64
-    requires { ⌜ (natAbs ahead ≤ 900000000) × (natAbs mean ≤ 900000000) × (natAbs shed ≤ 100000000) ⌝ }
+    requires { ⌜ (natAbs ahead ≤ 900000000) × (natAbs mean ≤ 900000000) × (natAbs shed ≤ 900000000) ⌝ }
     ensures { λ r. ⌜ r ≡ ahead -ℤ mean +ℤ shed ⌝ }
 {
-    ahead - mean + shed
+    more(less(ahead, mean), shed)
 }
 
 // The interval reader: the runs that stand in a part of the hour's text.

@@ -191,16 +191,16 @@ reserve-error-requires c κs =
     let told = own .b .given .1 in
     let sum = c .before .before .before .before .before .before .before .before .before .before .before .before in
     rw (
-      toZ-ofZ {w = w64} (record { sfits = c .before .before .hour-ahead .ok }),
+      toZ-ofZ {w = w64} {z = c .before .before .hour-ahead .result} (record { sfits = c .before .before .hour-ahead .ok }),
       c .before .before .hour-ahead .ensures,
-      toZ-ofZ {w = w64} (record { sfits = c .before .floor-div .ok }),
+      toZ-ofZ {w = w64} {z = c .before .floor-div .result} (record { sfits = c .before .floor-div .ok }),
       c .before .floor-div .ensures,
       toZ-ofZ {w = w64} {z = sum .i .given .0 .0} (sfits-of (c .before .before .before .before .before .before .before .before .before .before .before .known-told2 .given .0 .1)),
       own-held short (read .read-block .ensures) _ told 11,
     ) (
       own-ahead short (read .read-block .ensures) _ told,
       mean-small short (read .read-block .ensures) _ told (counted .magnitude .ensures) (given .read-intervals .ensures) _ _ (sum .i .given .1),
-      own-bounded short (read .read-block .ensures) _ told 11,
+      omega (arith, own-bounded short (read .read-block .ensures) _ told 11),
     )
 
 returns-5 : tie.Need-returns-5
@@ -217,11 +217,11 @@ returns-5 c =
     let told = own .b .given .1 in
     let held = own-held short (read .read-block .ensures) _ told in
     rw (
-      toZ-ofZ {w = w64} (record { sfits = c .reserve-error .ok }),
+      toZ-ofZ {w = w64} {z = c .reserve-error .result} (record { sfits = c .reserve-error .ok }),
       c .reserve-error .ensures,
-      toZ-ofZ {w = w64} (record { sfits = c .before .before .before .hour-ahead .ok }),
+      toZ-ofZ {w = w64} {z = c .before .before .before .hour-ahead .result} (record { sfits = c .before .before .before .hour-ahead .ok }),
       c .before .before .before .hour-ahead .ensures,
-      toZ-ofZ {w = w64} (record { sfits = c .before .before .floor-div .ok }),
+      toZ-ofZ {w = w64} {z = c .before .before .floor-div .result} (record { sfits = c .before .before .floor-div .ok }),
       c .before .before .floor-div .ensures,
       toZ-ofZ {w = w64} {z = sum .i .given .0 .0} (sfits-of (ended .before .known-told2 .given .0 .1)),
       counted .magnitude .ensures,

@@ -68,7 +68,7 @@ add-sum c =
     let told = c .before .before .b .given .1 in
     let sum = read .before .before .before .before .before .before .loop .sum in
     let small : natAbs (c .sced-reserve .result) ≤ 900000000 = rw (c .sced-reserve .ensures) (run-small (read .read-block .ensures) _ told) in
-    rw (toZ-ofZ {w = w64} (record { sfits = c .sced-reserve .ok })) (omega (arith, abs-fits, abs-add (toZ w64 sum) (c .sced-reserve .result)))
+    rw (toZ-ofZ {w = w64} {z = c .sced-reserve .result} (record { sfits = c .sced-reserve .ok })) (omega (arith, abs-fits, abs-add (toZ w64 sum) (c .sced-reserve .result)))
 
 add-i : tie.Need-add-i Inv-loop μ-loop
 add-i c = omega arith
@@ -83,7 +83,7 @@ loop-again c =
     let turn = read .before .before .before .before .before in
     let told = c .before .before .b .given .1 in
     rw
-    (toZ-ofZ {w = w64} (add-sum c), toZ-ofZ {w = w64} (record { sfits = c .sced-reserve .ok }), c .sced-reserve .ensures, run-filled (read .read-block .ensures) _ told)
+    (toZ-ofZ {w = w64} (add-sum c), toZ-ofZ {w = w64} {z = c .sced-reserve .result} (record { sfits = c .sced-reserve .ok }), c .sced-reserve .ensures, run-filled (read .read-block .ensures) _ told)
     (runs-more (turn .before .loop .inv) (turn .loop-test .taken) _ (sym (run-ends (read .read-block .ensures)) ∙ told))
 
 returns-2 : tie.Need-returns-2 Inv-loop μ-loop

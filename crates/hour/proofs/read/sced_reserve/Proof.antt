@@ -1,13 +1,36 @@
-use borrow.Author.Needs.{needs}
 use native.Mathlib.Omega.{arith}
-use lib.IntN.{_+ℤ_, _-ℤ_}
+use mathlib.Core.Path.{ap}
+use lib.IntN.{natAbs}
+use mir.Syntax.{w64}
 use mir.Facts.{toZ-ofZ}
-use Rattle.integer.proofs.Bounds.{abs-add, abs-sub, abs-fits}
-use Rattle.block.specs.Block.{value}
+use borrow.Author.Needs.{needs}
 use Rattle.hour.specs.Hour.{scedReserve}
-use Rattle.hour.proofs.Runs.{held}
+use Rattle.hour.proofs.Runs.{held, held-small}
 use Rattle.hour.proofs.read.sced_reserve.Statement.{statement}
 use Rattle.hour.proofs.read.sced_reserve.Tie as tie
+
+array-copy-out-less : tie.Need-array-copy-out-less
+array-copy-out-less c = search needs
+
+array-copy-out-less-2 : tie.Need-array-copy-out-less-2
+array-copy-out-less-2 c = search needs
+
+less-requires : tie.Need-less-requires
+less-requires c κs =
+    let start = c .before .before in
+    let small = held-small (start .args .t1) (start .pre) in
+    omega (
+      arith,
+      small 0,
+      small 1,
+      small 2,
+      small 3,
+      small 4,
+      small 5,
+      small 6,
+      small 7,
+      small 8,
+    )
 
 array-copy-out-with-three : tie.Need-array-copy-out-with-three
 array-copy-out-with-three c = search needs
@@ -18,6 +41,25 @@ array-copy-out-with-three-2 c = search needs
 array-copy-out-with-three-3 : tie.Need-array-copy-out-with-three-3
 array-copy-out-with-three-3 c = search needs
 
+with-three-requires : tie.Need-with-three-requires
+with-three-requires c κs =
+    let start = c .before .before .before .before .before .before in
+    let small = held-small (start .args .t1) (start .pre) in
+    omega (
+      arith,
+      c .before .before .before .less .ensures .1,
+      ap natAbs (toZ-ofZ {w = w64} {z = c .before .before .before .less .result} (record { sfits = c .before .before .before .less .ok })),
+      small 0,
+      small 1,
+      small 2,
+      small 3,
+      small 4,
+      small 5,
+      small 6,
+      small 7,
+      small 8,
+    )
+
 array-copy-out-with-three-4 : tie.Need-array-copy-out-with-three-4
 array-copy-out-with-three-4 c = search needs
 
@@ -27,158 +69,93 @@ array-copy-out-with-three-5 c = search needs
 array-copy-out-with-three-6 : tie.Need-array-copy-out-with-three-6
 array-copy-out-with-three-6 c = search needs
 
-array-copy-out-with-three-7 : tie.Need-array-copy-out-with-three-7
-array-copy-out-with-three-7 c = search needs
-
-array-copy-out-with-three-8 : tie.Need-array-copy-out-with-three-8
-array-copy-out-with-three-8 c = search needs
-
-array-copy-out-result : tie.Need-array-copy-out-result
-array-copy-out-result c = search needs
-
-sub-with-three : tie.Need-sub-with-three
-sub-with-three c =
-    let s = c .before .before in
-    let v = s .args .t1 in
-    let b = s .pre in
-    rw (held v b 0, held v b 1) (omega (arith, abs-fits, abs-sub (value v 0) (value v 1), b 0, b 1))
-
-with-three-requires : tie.Need-with-three-requires
-with-three-requires c κs =
-    let s = c .before .before .before .before .before in
-    let v = s .args .t1 in
-    let b = s .pre in
-    rw (
-      toZ-ofZ (sub-with-three (c .before .before .before)),
-      held v b 0,
-      held v b 1,
-      held v b 2,
-      held v b 3,
-      held v b 4,
-    )
-    (omega (arith, abs-sub (value v 0) (value v 1), b 0, b 1, b 2, b 3, b 4))
-
 with-three-requires-2 : tie.Need-with-three-requires-2
 with-three-requires-2 c κs =
-    let first = c .before .before .before in
-    let s = first .before .before .before .before .before .before in
-    let v = s .args .t1 in
-    let b = s .pre in
-    rw (
-      toZ-ofZ (record { sfits = first .with-three .ok }),
-      first .with-three .ensures,
-      toZ-ofZ (sub-with-three (first .before .before .before .before)),
-      held v b 0,
-      held v b 1,
-      held v b 2,
-      held v b 3,
-      held v b 4,
-      held v b 5,
-      held v b 6,
-      held v b 7,
-    )
-    (omega (
+    let start = c .before .before .before .before .before .before .before .before .before .before in
+    let small = held-small (start .args .t1) (start .pre) in
+    omega (
       arith,
-      abs-sub (value v 0) (value v 1),
-      abs-add (value v 0 -ℤ value v 1) (value v 2),
-      abs-add (value v 0 -ℤ value v 1 +ℤ value v 2) (value v 3),
-      abs-add (value v 0 -ℤ value v 1 +ℤ value v 2 +ℤ value v 3) (value v 4),
-      b 0,
-      b 1,
-      b 2,
-      b 3,
-      b 4,
-      b 5,
-      b 6,
-      b 7,
-    ))
+      c .before .before .before .before .before .before .before .less .ensures .1,
+      ap natAbs (toZ-ofZ {w = w64} {z = c .before .before .before .before .before .before .before .less .result} (record { sfits = c .before .before .before .before .before .before .before .less .ok })),
+      c .before .before .before .with-three .ensures .1,
+      ap natAbs (toZ-ofZ {w = w64} {z = c .before .before .before .with-three .result} (record { sfits = c .before .before .before .with-three .ok })),
+      small 0,
+      small 1,
+      small 2,
+      small 3,
+      small 4,
+      small 5,
+      small 6,
+      small 7,
+      small 8,
+    )
 
-sub-result : tie.Need-sub-result
-sub-result c =
-    let second = c .before in
-    let first = second .before .before .before .before in
-    let s = first .before .before .before .before .before .before in
-    let v = s .args .t1 in
-    let b = s .pre in
-    rw (
-      toZ-ofZ (record { sfits = second .with-three2 .ok }),
-      second .with-three2 .ensures,
-      toZ-ofZ (record { sfits = first .with-three .ok }),
-      first .with-three .ensures,
-      toZ-ofZ (sub-with-three (first .before .before .before .before)),
-      held v b 0,
-      held v b 1,
-      held v b 2,
-      held v b 3,
-      held v b 4,
-      held v b 5,
-      held v b 6,
-      held v b 7,
-      held v b 8,
-    )
-    (omega (
+array-copy-out-less-3 : tie.Need-array-copy-out-less-3
+array-copy-out-less-3 c = search needs
+
+less-requires-2 : tie.Need-less-requires-2
+less-requires-2 c κs =
+    let start = c .before .before .before .before .before .before .before .before .before .before .before .before in
+    let small = held-small (start .args .t1) (start .pre) in
+    omega (
       arith,
-      abs-fits,
-      abs-sub (value v 0) (value v 1),
-      abs-add (value v 0 -ℤ value v 1) (value v 2),
-      abs-add (value v 0 -ℤ value v 1 +ℤ value v 2) (value v 3),
-      abs-add (value v 0 -ℤ value v 1 +ℤ value v 2 +ℤ value v 3) (value v 4),
-      abs-add (value v 0 -ℤ value v 1 +ℤ value v 2 +ℤ value v 3 +ℤ value v 4) (value v 5),
-      abs-add (value v 0 -ℤ value v 1 +ℤ value v 2 +ℤ value v 3 +ℤ value v 4 +ℤ value v 5) (value v 6),
-      abs-add (value v 0 -ℤ value v 1 +ℤ value v 2 +ℤ value v 3 +ℤ value v 4 +ℤ value v 5 +ℤ value v 6) (value v 7),
-      abs-sub (value v 0 -ℤ value v 1 +ℤ value v 2 +ℤ value v 3 +ℤ value v 4 +ℤ value v 5 +ℤ value v 6 +ℤ value v 7) (value v 8),
-      b 0,
-      b 1,
-      b 2,
-      b 3,
-      b 4,
-      b 5,
-      b 6,
-      b 7,
-      b 8,
-    ))
+      c .before .before .before .before .before .before .before .before .before .less .ensures .1,
+      ap natAbs (toZ-ofZ {w = w64} {z = c .before .before .before .before .before .before .before .before .before .less .result} (record { sfits = c .before .before .before .before .before .before .before .before .before .less .ok })),
+      c .before .before .before .before .before .with-three .ensures .1,
+      ap natAbs (toZ-ofZ {w = w64} {z = c .before .before .before .before .before .with-three .result} (record { sfits = c .before .before .before .before .before .with-three .ok })),
+      c .before .with-three2 .ensures .1,
+      ap natAbs (toZ-ofZ {w = w64} {z = c .before .with-three2 .result} (record { sfits = c .before .with-three2 .ok })),
+      small 0,
+      small 1,
+      small 2,
+      small 3,
+      small 4,
+      small 5,
+      small 6,
+      small 7,
+      small 8,
+    )
 
 returns : tie.Need-returns
 unfolding scedReserve
 returns c =
-    let second = c .before in
-    let first = second .before .before .before .before in
-    let s = first .before .before .before .before .before .before in
-    let v = s .args .t1 in
-    let b = s .pre in
+    let start = c .before .before .before .before .before .before .before .before .before .before .before .before .before in
+    let value = held (start .args .t1) (start .pre) in
     rw (
-      toZ-ofZ (sub-result c),
-      toZ-ofZ (record { sfits = second .with-three2 .ok }),
-      second .with-three2 .ensures,
-      toZ-ofZ (record { sfits = first .with-three .ok }),
-      first .with-three .ensures,
-      toZ-ofZ (sub-with-three (first .before .before .before .before)),
-      held v b 0,
-      held v b 1,
-      held v b 2,
-      held v b 3,
-      held v b 4,
-      held v b 5,
-      held v b 6,
-      held v b 7,
-      held v b 8,
+      toZ-ofZ {w = w64} {z = c .less2 .result} (record { sfits = c .less2 .ok }),
+      c .less2 .ensures .0,
+      toZ-ofZ {w = w64} {z = c .before .before .with-three2 .result} (record { sfits = c .before .before .with-three2 .ok }),
+      c .before .before .with-three2 .ensures .0,
+      toZ-ofZ {w = w64} {z = c .before .before .before .before .before .before .with-three .result} (record { sfits = c .before .before .before .before .before .before .with-three .ok }),
+      c .before .before .before .before .before .before .with-three .ensures .0,
+      toZ-ofZ {w = w64} {z = c .before .before .before .before .before .before .before .before .before .before .less .result} (record { sfits = c .before .before .before .before .before .before .before .before .before .before .less .ok }),
+      c .before .before .before .before .before .before .before .before .before .before .less .ensures .0,
+      value 0,
+      value 1,
+      value 2,
+      value 3,
+      value 4,
+      value 5,
+      value 6,
+      value 7,
+      value 8,
     )
 
 pub sced-reserve-spec : {M : Type 1} → statement M
 sced-reserve-spec =
     tie.close
     (tie.spec
+    array-copy-out-less
+    array-copy-out-less-2
+    less-requires
     array-copy-out-with-three
     array-copy-out-with-three-2
-    sub-with-three
     array-copy-out-with-three-3
+    with-three-requires
     array-copy-out-with-three-4
     array-copy-out-with-three-5
-    with-three-requires
     array-copy-out-with-three-6
-    array-copy-out-with-three-7
-    array-copy-out-with-three-8
     with-three-requires-2
-    array-copy-out-result
-    sub-result
+    array-copy-out-less-3
+    less-requires-2
     returns)
