@@ -1,0 +1,235 @@
+//! Stored cases: inputs of every operation, with the reference's answers.
+//!
+//! README.md says how they are written down.
+
+mod book;
+mod curve_text;
+mod format;
+mod price;
+mod random;
+mod settle;
+mod texts;
+
+pub use format::{decode, encode};
+pub use random::Random;
+
+use reference::{
+    book, price_snapshot, read_curves, settle, write_curves, CurveSet, Record, Refusal,
+};
+use std::collections::BTreeMap;
+
+/// A text in pieces, each of which stands there a number of times.
+///
+/// In a piece, the byte `#` stands for the number of the repeat, 0 for the
+/// first, in four digits: so that many resources with ids of their own take
+/// little room.
+#[derive(Clone, Debug, Default, PartialEq, Eq)]
+pub struct Text {
+    pub pieces: Vec<(usize, Vec<u8>)>,
+}
+
+impl Text {
+    /// The text itself.
+    pub fn bytes(&self) -> Vec<u8> {
+        let mut bytes = Vec::new();
+        for (times, piece) in &self.pieces {
+            for repeat in 0..*times {
+                for &byte in piece {
+                    if byte == b'#' {
+                        bytes.extend(format!("{repeat:04}").into_bytes());
+                    } else {
+                        bytes.push(byte);
+                    }
+                }
+            }
+        }
+        bytes
+    }
+
+    /// Adds a piece.
+    pub fn then(mut self, times: usize, piece: impl Into<Vec<u8>>) -> Text {
+        self.pieces.push((times, piece.into()));
+        self
+    }
+}
+
+impl<T: Into<Vec<u8>>> From<T> for Text {
+    fn from(bytes: T) -> Text {
+        Text::default().then(1, bytes)
+    }
+}
+
+/// One call of an operation.
+#[derive(Clone, Debug, PartialEq, Eq)]
+pub enum Input {
+    Book {
+        record: Record,
+        text: Text,
+    },
+    Settle {
+        record: Record,
+        voll: i64,
+        floor: i64,
+    },
+    Read {
+        text: Text,
+    },
+    Write {
+        curves: CurveSet,
+        length: usize,
+    },
+    Price {
+        curves: CurveSet,
+        text: Text,
+    },
+}
+
+impl Input {
+    pub fn letter(&self) -> char {
+        match self {
+            Input::Book { .. } => 'B',
+            Input::Settle { .. } => 'S',
+            Input::Read { .. } => 'R',
+            Input::Write { .. } => 'W',
+            Input::Price { .. } => 'P',
+        }
+    }
+}
+
+/// A call, and what it is there for.
+#[derive(Clone, Debug)]
+pub struct Case {
+    pub label: String,
+    pub input: Input,
+}
+
+/// What the reference answers.
+#[derive(Clone, Debug, PartialEq, Eq)]
+pub enum Answer {
+    Accepted(Vec<i64>),
+    /// With the buffer's checksum, where a buffer was lent.
+    Refused(Refusal, Option<i64>),
+}
+
+impl Answer {
+    /// The answer's line in `expected.txt`, without its byte 10.
+    pub fn line(&self) -> String {
+        match self {
+            Answer::Accepted(numbers) => {
+                let numbers: Vec<String> = numbers.iter().map(i64::to_string).collect();
+                format!("accepted {}", numbers.join(" "))
+            }
+            Answer::Refused(Refusal { number, line }, None) => {
+                format!("refused {number} line {line}")
+            }
+            Answer::Refused(Refusal { number, line }, Some(checksum)) => {
+                format!("refused {number} line {line} buffer {checksum}")
+            }
+        }
+    }
+}
+
+/// The byte at each place of a buffer before anything is written to it.
+pub fn buffer_byte(place: usize) -> u8 {
+    (place % 251) as u8
+}
+
+/// A checksum that needs no number above 300 000 000 000.
+pub fn checksum(bytes: &[u8]) -> i64 {
+    let add = |sum: i64, &byte: &u8| (257 * sum + i64::from(byte) + 1) % 1_000_000_007;
+    bytes.iter().fold(0, add)
+}
+
+/// The 72 numbers of a record: count, sum and squares of each group.
+pub fn record_numbers(record: &Record) -> Vec<i64> {
+    let groups = record.groups.iter();
+    groups
+        .flat_map(|group| [group.count as i64, group.sum, group.squares])
+        .collect()
+}
+
+/// The 50 numbers of a curve set: VOLL, X, then mu and sigma of each group.
+pub fn curve_numbers(curves: &CurveSet) -> Vec<i64> {
+    let pairs = curves.pairs.iter().flat_map(|&(mu, sigma)| [mu, sigma]);
+    [curves.voll, curves.floor]
+        .into_iter()
+        .chain(pairs)
+        .collect()
+}
+
+/// The reference's answer.
+pub fn answer(input: &Input) -> Answer {
+    let refused = |refusal| Answer::Refused(refusal, None);
+    match input {
+        Input::Book { record, text } => match book(record, &text.bytes()) {
+            Ok(record) => Answer::Accepted(record_numbers(&record)),
+            Err(refusal) => refused(refusal),
+        },
+        Input::Settle {
+            record,
+            voll,
+            floor,
+        } => match settle(record, *voll, *floor) {
+            Ok(curves) => Answer::Accepted(curve_numbers(&curves)),
+            Err(refusal) => refused(refusal),
+        },
+        Input::Read { text } => match read_curves(&text.bytes()) {
+            Ok(curves) => Answer::Accepted(curve_numbers(&curves)),
+            Err(refusal) => refused(refusal),
+        },
+        Input::Write { curves, length } => {
+            let mut buffer: Vec<u8> = (0..*length).map(buffer_byte).collect();
+            match write_curves(curves, &mut buffer) {
+                Ok(written) => Answer::Accepted(vec![written as i64, checksum(&buffer)]),
+                Err(refusal) => Answer::Refused(refusal, Some(checksum(&buffer))),
+            }
+        }
+        Input::Price { curves, text } => match price_snapshot(curves, &text.bytes()) {
+            Ok(prices) => Answer::Accepted(vec![
+                prices.rs,
+                prices.rsns,
+                prices.pis,
+                prices.pins,
+                prices.online,
+                prices.offline,
+            ]),
+            Err(refusal) => refused(refusal),
+        },
+    }
+}
+
+/// All cases that follow from the seed.
+pub fn all_cases(seed: u64) -> Vec<Case> {
+    let mut random = Random::new(seed);
+    let mut cases = Vec::new();
+    book::add(&mut cases, &mut random);
+    settle::add(&mut cases, &mut random);
+    curve_text::add(&mut cases, &mut random);
+    price::add(&mut cases, &mut random);
+    cases
+}
+
+/// The refusal numbers that each operation can give.
+pub const CAN_REFUSE: [(char, &[u32]); 5] = [
+    ('B', &[1, 2, 3, 4, 5, 6, 7, 9, 10, 11]),
+    ('S', &[1, 7, 12, 13]),
+    ('R', &[2, 3, 4, 5, 6, 7, 9]),
+    ('W', &[1, 14]),
+    ('P', &[1, 2, 3, 4, 5, 6, 7, 8, 9]),
+];
+
+/// How often each answer came: by operation and refusal number, 0 standing
+/// for an accepted input.
+pub fn tally<'a>(
+    answers: impl Iterator<Item = (&'a Case, &'a Answer)>,
+) -> BTreeMap<(char, u32), usize> {
+    let mut tally = BTreeMap::new();
+    for (case, answer) in answers {
+        let number = match answer {
+            Answer::Accepted(_) => 0,
+            Answer::Refused(refusal, _) => refusal.number,
+        };
+        *tally.entry((case.input.letter(), number)).or_insert(0) += 1;
+    }
+    tally
+}

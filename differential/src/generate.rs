@@ -1,0 +1,279 @@
+//! Random inputs of every operation: accepted ones, ones near a bound, and
+//! damaged ones.
+
+use crate::damage::damage;
+use crate::texts::{hour_in_group, snapshot, MOST_POWER};
+use crate::{Curves, Input, Random, RecordNumbers};
+use reference::{read_snapshot, reserves, sums, WRITTEN_LIMIT};
+
+const LARGEST_ERROR: i64 = 20_000_000;
+const MOST_HOURS: i64 = 1000;
+
+/// A random input.
+pub fn input(random: &mut Random) -> Input {
+    match random.bits() % 20 {
+        0..=5 => book(random),
+        6..=8 => settle(random),
+        9..=11 => read(random),
+        12 | 13 => write(random),
+        _ => price(random),
+    }
+}
+
+/// Books an error a number of times.
+fn add(group: &mut [i64; 3], times: i64, error: i64) {
+    group[0] += times;
+    group[1] += times * error;
+    group[2] += times * error * error;
+}
+
+fn scale(random: &mut Random) -> i64 {
+    *random.pick(&[1, 10, 1000, 100_000, 1_000_000, LARGEST_ERROR])
+}
+
+/// A group of a few errors, each any number of times.
+fn group(random: &mut Random, scale: i64, settles: bool) -> [i64; 3] {
+    let mut group = [0; 3];
+    if settles {
+        // Two errors apart give every group a sigma.
+        add(&mut group, 1, scale.max(2));
+        add(&mut group, 1, -scale.max(2));
+    }
+    for _ in 0..random.within(0, 3) {
+        let room = MOST_HOURS - group[0];
+        let times = match random.bits() % 16 {
+            0 => room,
+            1..=4 => random.within(0, room / 2),
+            _ => random.within(0, 2.min(room)),
+        };
+        add(&mut group, times, random.within(-scale, scale));
+    }
+    group
+}
+
+/// A record that can be; in most, all groups settle or all but a few.
+fn record(random: &mut Random) -> Box<RecordNumbers> {
+    let scale = scale(random);
+    let settled = match random.bits() % 4 {
+        0 => 2,
+        1 => 40,
+        _ => u64::MAX,
+    };
+    let mut record = Box::new([0; 72]);
+    for place in 0..24 {
+        let settles = settled == u64::MAX || !random.one_in(settled);
+        let mut one = group(random, scale, settles);
+        if random.one_in(8) {
+            near_a_square(random, &mut one);
+        }
+        record[3 * place..][..3].copy_from_slice(&one);
+    }
+    record
+}
+
+/// Gives the group squares that make the mean square deviation a square, or
+/// miss it by one in the sum.
+fn near_a_square(random: &mut Random, group: &mut [i64; 3]) {
+    let [count, sum, squares] = group;
+    if *count < 2 {
+        return;
+    }
+    let mu = sum.div_euclid(*count);
+    let deviations = *squares - 2 * mu * *sum + *count * mu * mu;
+    let root = (deviations / *count).isqrt();
+    *squares += *count * root * root - deviations + random.within(-1, 1);
+}
+
+/// Changes one number of a record, often by just enough or just too much.
+fn damage_record(random: &mut Random, record: &mut RecordNumbers) {
+    let group = &mut record[3 * random.place(24)..][..3];
+    let count = group[0];
+    match random.bits() % 10 {
+        0 => group[0] = *random.pick(&[-1, 0, 1, 999, 1000, 1001, i64::MAX, i64::MIN]),
+        1 => group[1] = *random.pick(&[-1, 0, 1, i64::MAX, i64::MIN]),
+        2 => group[2] = *random.pick(&[-1, 0, 1, i64::MAX, i64::MIN]),
+        3 => group[1] = count.wrapping_mul(LARGEST_ERROR) + random.within(-1, 1),
+        4 => group[1] = -count.wrapping_mul(LARGEST_ERROR) + random.within(-1, 1),
+        5 => {
+            group[2] = count.wrapping_mul(LARGEST_ERROR * LARGEST_ERROR) + random.within(-1, 1);
+        }
+        6 => group[random.place(3)] = random.bits() as i64,
+        _ => {
+            // The least squares that these hours can have, or a few less.
+            let (count, sum) = (i128::from(group[0].max(1)), i128::from(group[1]));
+            let least = (sum * sum).div_euclid(count) as i64;
+            group[2] = least.saturating_add(random.within(-3, 3));
+        }
+    }
+}
+
+fn book(random: &mut Random) -> Input {
+    let mut record = if random.one_in(3) {
+        Box::new([0; 72])
+    } else {
+        record(random)
+    };
+    let group = random.place(24);
+    let mut hour = hour_in_group(random, group);
+    // Mostly an error that can be booked; else what the fields happen to give.
+    if !random.one_in(10) {
+        let error = match random.bits() % 8 {
+            0 => LARGEST_ERROR + random.within(-1, 1),
+            1 => -LARGEST_ERROR + random.within(-1, 1),
+            _ => random.uneven(-LARGEST_ERROR, LARGEST_ERROR),
+        };
+        let reserve = hour.ahead_reserve() + error - hour.error();
+        if !hour.set_ahead_reserve(reserve) {
+            hour.ahead[1] = hour.ahead[1].clamp(0, MOST_POWER);
+        }
+    }
+    let mut text = hour.text();
+    if random.one_in(2) {
+        damage(random, &mut text);
+    }
+    match random.bits() % 64 {
+        0..=3 => {
+            let error = random.within(-5, 5);
+            let count = MOST_HOURS - random.within(0, 1);
+            let full = [count, count * error, count * error * error];
+            record[3 * group..][..3].copy_from_slice(&full);
+        }
+        4..=7 => damage_record(random, &mut record),
+        8 if random.one_in(8) => lengthen(random, &mut text, 65_536),
+        _ => {}
+    }
+    Input::Book { record, text }
+}
+
+/// Fills the text up to its limit of bytes, or just over it.
+fn lengthen(random: &mut Random, text: &mut Vec<u8>, limit: usize) {
+    let length = (limit as i64 + random.within(-1, 2)) as usize;
+    let fill = *random.pick(b"\nx0=");
+    if text.len() < length {
+        text.resize(length, fill);
+    }
+}
+
+fn settle(random: &mut Random) -> Input {
+    let mut record = record(random);
+    if random.one_in(3) {
+        damage_record(random, &mut record);
+    }
+    let mut bounded = |most: i64| match random.bits() % 24 {
+        0 => -1,
+        1 => most + 1,
+        2 => *random.pick(&[i64::MAX, i64::MIN]),
+        _ => random.uneven(0, most),
+    };
+    let voll = bounded(2_000_000);
+    let floor = bounded(20_000_000);
+    Input::Settle {
+        record,
+        voll,
+        floor,
+    }
+}
+
+/// A curve set in its ranges.
+fn curves(random: &mut Random) -> Curves {
+    let mut curves = [0; 50];
+    curves[0] = random.uneven(0, 2_000_000);
+    curves[1] = random.uneven(0, 20_000_000);
+    for pair in curves[2..].chunks_mut(2) {
+        pair[0] = random.uneven(-20_000_000, 20_000_000);
+        pair[1] = random.uneven(1, 20_000_000);
+    }
+    curves
+}
+
+fn damage_curves(random: &mut Random, curves: &mut Curves) {
+    let place = random.place(50);
+    curves[place] = match random.bits() % 4 {
+        0 => *random.pick(&[-1, 0, i64::MAX, i64::MIN, 2_000_001]),
+        1 => *random.pick(&[20_000_001, -20_000_001, 20_000_000, -20_000_000]),
+        2 => random.bits() as i64,
+        _ => random.uneven(-20_000_002, 20_000_002),
+    };
+}
+
+fn read(random: &mut Random) -> Input {
+    let curves = curves(random);
+    let mut text = Vec::new();
+    let mut put = |key: &str, value: i64| {
+        text.extend_from_slice(format!("{key}={value}\n").as_bytes());
+    };
+    put("voll", curves[0]);
+    put("floor", curves[1]);
+    for pair in curves[2..].chunks(2) {
+        put("mu", pair[0]);
+        put("sigma", pair[1]);
+    }
+    if !random.one_in(4) {
+        damage(random, &mut text);
+    }
+    if random.one_in(64) {
+        lengthen(random, &mut text, 4096);
+    }
+    Input::Read { text }
+}
+
+fn write(random: &mut Random) -> Input {
+    let mut curves = curves(random);
+    if random.one_in(5) {
+        damage_curves(random, &mut curves);
+    }
+    let mut buffer = [0; WRITTEN_LIMIT];
+    let fits = reference::write_curves(&crate::curve_set(&curves), &mut buffer).unwrap_or(500);
+    let length = match random.bits() % 4 {
+        0 => random.within(0, 800) as usize,
+        1 => WRITTEN_LIMIT,
+        _ => (fits as i64 + random.within(-2, 2)) as usize,
+    };
+    Input::Write { curves, length }
+}
+
+fn price(random: &mut Random) -> Input {
+    let count = match random.bits() % 4096 {
+        0 => 4096,
+        1..=16 => random.within(0, 500),
+        _ => random.within(0, 8),
+    };
+    let snapshot = snapshot(random, count as usize);
+    let mut text = snapshot.text();
+    let mut curves = curves(random);
+    near_the_floor(random, &mut curves, &text);
+    if random.one_in(2) {
+        damage(random, &mut text);
+    }
+    match random.bits() % 256 {
+        0..=7 => damage_curves(random, &mut curves),
+        8 if random.one_in(4) => lengthen(random, &mut text, 1_048_576),
+        _ => {}
+    }
+    Input::Price { curves, text }
+}
+
+/// Mostly moves X and the curves near the snapshot's reserves, where the
+/// prices change.
+fn near_the_floor(random: &mut Random, curves: &mut Curves, text: &[u8]) {
+    let Ok(snapshot) = read_snapshot(text) else {
+        return;
+    };
+    let reserves = reserves(&snapshot, &sums(&snapshot));
+    let target = if random.one_in(2) {
+        reserves.rs
+    } else {
+        reserves.rsns
+    };
+    let sigma = random.uneven(1, 20_000_000);
+    let away = match random.bits() % 4 {
+        0 => return,
+        1 => random.within(-2, 2),
+        _ => random.within(-sigma, 6 * sigma),
+    };
+    curves[1] = (target - away).clamp(0, 20_000_000);
+    for pair in curves[2..].chunks_mut(2) {
+        pair[0] = random.within(-sigma, sigma);
+        pair[1] = sigma;
+    }
+}

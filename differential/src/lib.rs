@@ -1,0 +1,61 @@
+//! Random and damaged inputs for two implementations, which must agree.
+//!
+//! The library under test stands behind the trait [`Library`]; every answer is
+//! compared with the reference's. An input on which they differ is made as
+//! small as it can be. [`order`] checks, on random pairs of histories and
+//! snapshots, that more reserve never raises a price.
+
+mod damage;
+#[cfg(feature = "ordc")]
+mod ffi;
+mod generate;
+mod input;
+pub mod order;
+mod plain;
+mod random;
+mod shrink;
+mod texts;
+
+#[cfg(feature = "ordc")]
+pub use ffi::Linked;
+pub use generate::input;
+pub use input::{run, show, show_text, Input, Outcome, Tally, CAN_REFUSE};
+pub use plain::{curve_set, Plain};
+pub use random::Random;
+pub use shrink::shrink;
+
+/// 24 groups of count, sum and squares.
+pub type RecordNumbers = [i64; 72];
+
+/// VOLL, X, then 24 pairs mu, sigma.
+pub type Curves = [i64; 50];
+
+/// rs, rsns, pis, pins, online, offline.
+pub type Answer = [i64; 6];
+
+/// A refusal's number and line; number 0 is an acceptance.
+#[derive(Clone, Copy, Debug, PartialEq, Eq)]
+pub struct Refusal {
+    pub number: u64,
+    pub line: u64,
+}
+
+impl Refusal {
+    pub const NONE: Refusal = Refusal { number: 0, line: 0 };
+
+    pub fn accepted(self) -> bool {
+        self.number == 0
+    }
+}
+
+/// The operations, over plain arrays. On a refusal every lent array and
+/// buffer is as before.
+pub trait Library {
+    fn name(&self) -> &'static str;
+    fn book(&self, record: &mut RecordNumbers, text: &[u8]) -> Refusal;
+    fn settle(&self, record: &RecordNumbers, voll: i64, floor: i64, curves: &mut Curves)
+        -> Refusal;
+    fn read_curves(&self, text: &[u8], curves: &mut Curves) -> Refusal;
+    fn write_curves(&self, curves: &Curves, buffer: &mut [u8], written: &mut i64) -> Refusal;
+    fn price(&self, curves: &Curves, text: &[u8], answer: &mut Answer) -> Refusal;
+}

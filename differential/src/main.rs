@@ -1,0 +1,166 @@
+//! `differential [--seed N] [--inputs N] [--from N] [--pairs N] [--long]`
+
+use differential::order::{self, Counts, SNAPSHOTS};
+use differential::{input, run, show, shrink, Library, Outcome, Plain, Random, Tally};
+use std::process::ExitCode;
+use std::time::{Instant, SystemTime, UNIX_EPOCH};
+
+const USAGE: &str = "usage: differential [--seed N] [--inputs N] [--from N] [--pairs N] [--long]
+  --seed N    the seed; without it one is taken from the clock
+  --inputs N  so many inputs (200000)
+  --from N    the place of the first input (0)
+  --pairs N   so many pairs of histories and snapshots (20000)
+  --long      twenty times as many of both";
+
+struct Options {
+    seed: u64,
+    inputs: u64,
+    from: u64,
+    pairs: u64,
+}
+
+fn main() -> ExitCode {
+    let Some(options) = options() else {
+        eprintln!("{USAGE}");
+        return ExitCode::from(2);
+    };
+    #[cfg(feature = "ordc")]
+    let library = differential::Linked;
+    #[cfg(not(feature = "ordc"))]
+    let library = Plain;
+    println!(
+        "seed {}, {} against the reference",
+        options.seed,
+        library.name()
+    );
+    let agree = inputs(&library, &options);
+    let ordered = pairs(&library, &options);
+    if agree && ordered {
+        println!("passed");
+        ExitCode::SUCCESS
+    } else {
+        println!("FAILED, seed {}", options.seed);
+        ExitCode::FAILURE
+    }
+}
+
+fn options() -> Option<Options> {
+    let clock = SystemTime::now().duration_since(UNIX_EPOCH).ok()?;
+    let mut options = Options {
+        seed: clock.as_micros() as u64,
+        inputs: 200_000,
+        from: 0,
+        pairs: 20_000,
+    };
+    let mut arguments = std::env::args().skip(1);
+    let mut times = 1;
+    while let Some(argument) = arguments.next() {
+        let value = match argument.as_str() {
+            "--long" => {
+                times = 20;
+                continue;
+            }
+            "--seed" => &mut options.seed,
+            "--inputs" => &mut options.inputs,
+            "--from" => &mut options.from,
+            "--pairs" => &mut options.pairs,
+            _ => return None,
+        };
+        *value = arguments.next()?.parse().ok()?;
+    }
+    options.inputs *= times;
+    options.pairs *= times;
+    Some(options)
+}
+
+/// Runs the inputs; true if all agree and every outcome came.
+fn inputs(library: &dyn Library, options: &Options) -> bool {
+    let start = Instant::now();
+    let mut tally = Tally::default();
+    for place in options.from..options.from + options.inputs {
+        let one = input(&mut Random::at(options.seed, place));
+        let right = run(&Plain, &one);
+        tally.count(one.operation(), right.refusal);
+        if run(library, &one) != right {
+            println!("input {place} differs; the smallest found that does:");
+            let differs = |one: &_| run(library, one) != run(&Plain, one);
+            let smallest = shrink(&one, differs);
+            print!("{}", show(&smallest));
+            println!("reference: {}", told(&run(&Plain, &smallest)));
+            println!("{}: {}", library.name(), told(&run(library, &smallest)));
+            return false;
+        }
+    }
+    let seconds = start.elapsed().as_secs_f64();
+    println!(
+        "{} inputs in {seconds:.1} s; refusals by number:",
+        options.inputs
+    );
+    print!("{}", tally.show());
+    let missing = tally.missing();
+    if !missing.is_empty() {
+        println!("never came: {}", missing.join(", "));
+    }
+    missing.is_empty()
+}
+
+fn told(outcome: &Outcome) -> String {
+    let refusal = outcome.refusal;
+    let mut line = match refusal.number {
+        0 => "accepted".to_string(),
+        number => format!("refused {number} line {}", refusal.line),
+    };
+    line += &format!(", lent array {:?}", outcome.numbers);
+    if !outcome.buffer.is_empty() {
+        line += &format!(", lent buffer \"{}\"", outcome.buffer.escape_ascii());
+    }
+    line
+}
+
+/// Runs the pairs; true if none breaks the rule and some were tight.
+fn pairs(library: &dyn Library, options: &Options) -> bool {
+    let start = Instant::now();
+    let mut counts = Counts::default();
+    // Its own numbers, whatever the number of inputs.
+    let seed = Random::at(options.seed, u64::MAX).bits();
+    for place in 0..options.pairs.div_ceil(SNAPSHOTS) {
+        match order::check(library, &mut Random::at(seed, place)) {
+            Ok(more) => counts.add(&more),
+            Err(broken) => {
+                println!("a price rises with reserve, in history pair {place}:");
+                print!("{broken}");
+                return false;
+            }
+        }
+    }
+    let seconds = start.elapsed().as_secs_f64();
+    let Counts {
+        pairs,
+        accepted,
+        handed,
+        near,
+        slack,
+        falling,
+        tight,
+        bookings,
+        refused_bookings,
+        unmatched,
+    } = counts;
+    println!(
+        "{pairs} pairs in {seconds:.1} s, {accepted} accepted, {handed} of them on curves handed in"
+    );
+    println!(
+        "{near} near X, {slack} with a slack cap, {falling} falling, {tight} tight (all three)"
+    );
+    println!(
+        "{bookings} bookings, {refused_bookings} refused; {unmatched} histories refused at \
+         different places"
+    );
+    if unmatched > 0 {
+        println!("a booking was refused in one list only");
+    }
+    if options.pairs > 0 && tight == 0 {
+        println!("no pair was tight");
+    }
+    unmatched == 0 && (tight > 0 || options.pairs == 0)
+}

@@ -1,0 +1,247 @@
+//! Libraries with a fault each: the fault is found, and made small.
+
+use differential::order::{self, Counts};
+use differential::{
+    input, run, show, shrink, Answer, Curves, Input, Library, Plain, Random, RecordNumbers,
+    Refusal, Tally,
+};
+
+#[derive(Clone, Copy, Debug, PartialEq, Eq)]
+enum Fault {
+    None,
+    /// Counts a unit that starts up without Non-Spin.
+    Startup,
+    /// Sums rrs over the validated loads only.
+    Rrs,
+    /// A refused write starts to write.
+    Buffer,
+    /// A refused hour is counted.
+    Record,
+    /// An accepted hour is not booked.
+    Kept,
+    /// Bytes after the text are told one line too early.
+    Line,
+    /// Gives out VOLL with a refusal of a curve text.
+    Voll,
+    /// Rounds large roots up.
+    Sigma,
+    /// Prices more with more reserve.
+    Rising,
+}
+
+struct Faulty(Fault);
+
+impl Library for Faulty {
+    fn name(&self) -> &'static str {
+        "faulty"
+    }
+
+    fn book(&self, record: &mut RecordNumbers, text: &[u8]) -> Refusal {
+        let before = *record;
+        let mut refusal = Plain.book(record, text);
+        match self.0 {
+            Fault::Record if refusal.number == 11 => record[0] += 1,
+            Fault::Kept => *record = before,
+            Fault::Line if refusal.number == 9 => refusal.line -= 1,
+            _ => {}
+        }
+        refusal
+    }
+
+    fn settle(
+        &self,
+        record: &RecordNumbers,
+        voll: i64,
+        floor: i64,
+        curves: &mut Curves,
+    ) -> Refusal {
+        let refusal = Plain.settle(record, voll, floor, curves);
+        if self.0 == Fault::Sigma && refusal.accepted() && curves[3 + 2 * 9] > 1000 {
+            curves[3 + 2 * 9] += 1;
+        }
+        refusal
+    }
+
+    fn read_curves(&self, text: &[u8], curves: &mut Curves) -> Refusal {
+        let refusal = Plain.read_curves(text, curves);
+        if self.0 == Fault::Voll && refusal.number > 2 && refusal.line > 1 {
+            curves[0] = 1;
+        }
+        refusal
+    }
+
+    fn write_curves(&self, curves: &Curves, buffer: &mut [u8], written: &mut i64) -> Refusal {
+        let refusal = Plain.write_curves(curves, buffer, written);
+        if self.0 == Fault::Buffer && refusal.number == 14 && !buffer.is_empty() {
+            buffer[0] = b'v';
+        }
+        refusal
+    }
+
+    fn price(&self, curves: &Curves, text: &[u8], answer: &mut Answer) -> Refusal {
+        let changed = |from: &str, to: &str| {
+            let text = String::from_utf8_lossy(text).replace(from, to);
+            text.into_bytes()
+        };
+        let mut copy = *answer;
+        let refusal = Plain.price(curves, text, answer);
+        let faulty = match self.0 {
+            Fault::Startup => changed("status=STARTUP\n", "status=ON\n"),
+            Fault::Rrs => without_rrs(text),
+            _ => text.to_vec(),
+        };
+        if refusal.accepted() && Plain.price(curves, &faulty, &mut copy).accepted() {
+            *answer = copy;
+        }
+        if self.0 == Fault::Rising && refusal.accepted() {
+            answer[4] = answer[0];
+        }
+        refusal
+    }
+}
+
+/// The text with rrs 0 in the loads that are not validated.
+fn without_rrs(text: &[u8]) -> Vec<u8> {
+    let text = String::from_utf8_lossy(text);
+    let mut validated = true;
+    let lines = text.split_inclusive('\n').map(|line| {
+        if let Some(flag) = line.strip_prefix("rrsok=") {
+            validated = flag == "1\n";
+        }
+        match line.starts_with("rrs=") && !validated {
+            true => "rrs=0\n",
+            false => line,
+        }
+    });
+    lines.collect::<String>().into_bytes()
+}
+
+/// The smallest input found on which the fault shows.
+fn smallest(fault: Fault) -> Input {
+    let differs = |input: &Input| run(&Faulty(fault), input) != run(&Plain, input);
+    let inputs = (0..50_000).map(|place| input(&mut Random::at(7, place)));
+    let found = inputs.into_iter().find(|input| differs(input));
+    let found = found.unwrap_or_else(|| panic!("{fault:?} is not found"));
+    let smallest = shrink(&found, differs);
+    assert!(differs(&smallest));
+    smallest
+}
+
+fn lines(text: &[u8]) -> Vec<String> {
+    let text = String::from_utf8_lossy(text);
+    text.lines().map(str::to_string).collect()
+}
+
+#[test]
+fn the_reference_agrees_with_itself_and_every_refusal_comes() {
+    let mut tally = Tally::default();
+    for place in 0..40_000 {
+        let one = input(&mut Random::at(1, place));
+        let outcome = run(&Plain, &one);
+        tally.count(one.operation(), outcome.refusal);
+        assert_eq!(run(&Faulty(Fault::None), &one), outcome);
+    }
+    assert_eq!(tally.missing(), Vec::<String>::new());
+}
+
+#[test]
+fn a_missing_refusal_is_told() {
+    let missing = Tally::default().missing();
+    assert!(missing.contains(&"price refused 8".to_string()));
+    assert!(missing.contains(&"refused 14 of any operation".to_string()));
+}
+
+#[test]
+fn a_unit_counted_wrongly_is_found_and_stands_alone() {
+    let Input::Price { text, .. } = smallest(Fault::Startup) else {
+        panic!("the fault is in pricing");
+    };
+    let lines = lines(&text);
+    assert_eq!(lines.len(), 8 + 9, "{lines:?}");
+    assert_eq!(lines[7], "count=1");
+    assert_eq!(lines[10], "status=STARTUP");
+    assert!(lines[3..7].iter().all(|line| line.len() < 14), "{lines:?}");
+}
+
+#[test]
+fn rrs_of_loads_not_validated_is_found() {
+    let Input::Price { text, .. } = smallest(Fault::Rrs) else {
+        panic!("the fault is in pricing");
+    };
+    let lines = lines(&text);
+    assert_eq!(lines.len(), 8 + 6 + 6, "{lines:?}");
+    assert!(lines.contains(&"rrsok=0".to_string()));
+    assert!(lines.contains(&"rrsok=1".to_string()));
+}
+
+#[test]
+fn what_a_refusal_changes_is_found() {
+    let Input::Write { curves, length } = smallest(Fault::Buffer) else {
+        panic!("the fault is in writing");
+    };
+    assert_eq!(length, 1);
+    assert_eq!((curves[0], curves[1]), (0, 0));
+    let Input::Book { record, text } = smallest(Fault::Record) else {
+        panic!("the fault is in booking");
+    };
+    assert_eq!(*record, [0; 72]);
+    assert_eq!(lines(&text).len(), 22);
+    let Input::Read { text } = smallest(Fault::Voll) else {
+        panic!("the fault is in reading");
+    };
+    assert_eq!(lines(&text), ["voll=0"]);
+}
+
+#[test]
+fn a_wrong_line_and_a_lost_hour_are_found() {
+    for fault in [Fault::Line, Fault::Kept] {
+        let Input::Book { record, text } = smallest(fault) else {
+            panic!("the fault is in booking");
+        };
+        assert_eq!(*record, [0; 72]);
+        assert!(lines(&text).len() <= 23, "{fault:?}");
+    }
+}
+
+#[test]
+fn a_wrong_root_is_found_in_the_smallest_record() {
+    let smallest = smallest(Fault::Sigma);
+    let shown = show(&smallest);
+    assert!(
+        shown.contains("groups 0..8: count 2, sum 0, squares 2"),
+        "{shown}"
+    );
+    assert!(shown.contains("groups 9..9: "), "{shown}");
+    assert!(shown.contains("VOLL 0, X 0"), "{shown}");
+}
+
+#[test]
+fn more_reserve_never_raises_a_price() {
+    let mut counts = Counts::default();
+    for place in 0..40 {
+        counts.add(&order::check(&Plain, &mut Random::at(3, place)).unwrap());
+    }
+    assert_eq!(counts.pairs, 40 * order::SNAPSHOTS);
+    assert_eq!(counts.unmatched, 0);
+    assert!(counts.refused_bookings > 0);
+    assert!(0 < counts.handed && counts.handed < counts.accepted);
+    assert!(counts.accepted > counts.pairs / 2);
+    assert!(counts.tight > 20, "{counts:?}");
+}
+
+#[test]
+fn a_price_that_rises_is_told() {
+    let told = (0..10)
+        .find_map(|place| order::check(&Faulty(Fault::Rising), &mut Random::at(3, place)).err())
+        .unwrap();
+    assert!(told.contains("second:"), "{told}");
+    assert!(told.contains("booked hour,"), "{told}");
+}
+
+#[test]
+fn a_place_has_its_own_numbers() {
+    let one = |seed, place| input(&mut Random::at(seed, place));
+    assert_eq!(one(5, 9), one(5, 9));
+    assert_ne!(one(5, 9), one(5, 10));
+    assert_ne!(one(5, 9), one(6, 9));
+}
