@@ -7,3 +7,4 @@ pub mod RoundTrip
 pub mod Values
 pub mod Laid
 pub mod Writing
+pub mod Refused

@@ -2,3 +2,4 @@
 pub mod Block
 pub mod Write
 pub mod Promises
+pub mod Output

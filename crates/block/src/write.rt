@@ -8,6 +8,8 @@ ghost use Rattle.block.specs.Write.{laidAt, lengthWithin, writtenLine, w
 use integer::magnitude;
 use text::piece::piece_end;
 
+pub mod output;
+
 // How long a text is, where it is no longer than a limit.
 pub enum Length {
     Is(usize),

@@ -1,0 +1,79 @@
+use Prim.Native.Nat.{_≤_, _-_}
+use borrow.Author.Needs.{needs}
+use native.Mathlib.Omega.{arith}
+use Rattle.curves.proofs.main.Statement.{statement}
+use Rattle.curves.proofs.main.Tie as tie
+use Rattle.curves.proofs.main.Reads as reads
+use Rattle.curves.proofs.main.Lts as lts
+use Rattle.curves.proofs.feed.Reads as feed-reads
+use Rattle.curves.proofs.print.Reads as print-reads
+use Rattle.curves.proofs.read.Reads as read-reads
+use Rattle.io.proofs.large_buffer.Reads as large-buffer-reads
+use Rattle.stream.proofs.is_refused.Reads as is-refused-reads
+use Rattle.stream.proofs.finish.Reads as finish-reads
+use Rattle.stream.proofs.start.Reads as start-reads
+
+abbrev Inv-loop : tie.InvT-loop
+Inv-loop buffer₀ input₀ current₀ reads₀ buffer input current reads = reads ≤ 1099511627776
+
+abbrev μ-loop : tie.MeasureT-loop
+μ-loop buffer₀ input₀ current₀ reads₀ buffer input current reads = 1099511627776 - reads
+
+large-buffer-requires : tie.Need-large-buffer-requires Inv-loop μ-loop
+large-buffer-requires c κs = search needs
+
+large-buffer-requires-2 : tie.Need-large-buffer-requires-2 Inv-loop μ-loop
+large-buffer-requires-2 c κs = search needs
+
+start-requires : tie.Need-start-requires Inv-loop μ-loop
+start-requires c κs = search needs
+
+loop-holds : tie.Need-loop-holds Inv-loop μ-loop
+loop-holds c = search needs
+
+read-requires : tie.Need-read-requires Inv-loop μ-loop
+read-requires c κs = search needs
+
+feed-requires : tie.Need-feed-requires Inv-loop μ-loop
+feed-requires c κs = search needs
+
+is-refused-requires : tie.Need-is-refused-requires Inv-loop μ-loop
+is-refused-requires c κs = search needs
+
+add-reads : tie.Need-add-reads Inv-loop μ-loop
+add-reads c = search needs
+
+loop-less : tie.Need-loop-less Inv-loop μ-loop
+loop-less c = search needs
+
+loop-again : tie.Need-loop-again Inv-loop μ-loop
+loop-again c = search needs
+
+finish-requires : tie.Need-finish-requires Inv-loop μ-loop
+finish-requires c κs = search needs
+
+print-requires : tie.Need-print-requires Inv-loop μ-loop
+print-requires c κs = search needs
+
+returns : tie.Need-returns Inv-loop μ-loop
+returns c = search needs
+
+pub main-spec : {M : Type 1} → statement M
+main-spec =
+    tie.close
+    (tie.spec
+    Inv-loop
+    μ-loop
+    large-buffer-requires
+    large-buffer-requires-2
+    start-requires
+    loop-holds
+    read-requires
+    feed-requires
+    is-refused-requires
+    add-reads
+    loop-less
+    loop-again
+    finish-requires
+    print-requires
+    returns)

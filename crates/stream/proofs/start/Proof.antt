@@ -1,0 +1,16 @@
+use native.Mathlib.Omega.{arith}
+use borrow.Author.Needs.{needs}
+use Rattle.stream.proofs.start.Statement.{statement}
+use Rattle.stream.proofs.start.Tie as tie
+use Rattle.stream.proofs.start.Reads as reads
+use Rattle.stream.proofs.start.Lts as lts
+use Rattle.history.proofs.record.fresh.Reads as fresh-reads
+
+fresh-requires : tie.Need-fresh-requires
+fresh-requires c κs = search needs
+
+returns : tie.Need-returns
+returns c = rw (c .fresh .ensures)
+
+pub start-spec : {M : Type 1} → statement M
+start-spec = tie.close (tie.spec fresh-requires returns)
