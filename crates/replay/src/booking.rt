@@ -1,0 +1,98 @@
+// Cases of booking an hour, and of settling a record. Each answers where the next case starts.
+use crate::expansion::text_at;
+use crate::groups::record_at;
+use crate::line::line_space;
+use crate::line::put_bytes;
+use crate::line::put_curves;
+use crate::line::put_record;
+use crate::line::put_refusal;
+use crate::line::show;
+use crate::number::number_at;
+use curve::answer::Answer;
+use curve::curves::Curves;
+use history::record::Booking;
+use history::record::Group;
+use history::record::Record;
+use history::record::book;
+use history::record::settle::settle;
+use text::line::part;
+
+fn is_same_group(one: Group, other: Group) -> bool {
+    if one.count != other.count {
+        return false;
+    }
+    if one.sum != other.sum {
+        return false;
+    }
+    one.squares == other.squares
+}
+
+// Whether two records are the same in each number.
+fn is_same(one: Record, other: Record) -> bool {
+    let mut i: usize = 0;
+    while i < 24 {
+        let a = one.groups[i];
+        let b = other.groups[i];
+        if !is_same_group(a, b) {
+            return false;
+        }
+        i += 1;
+    }
+    true
+}
+
+// The line of a booking. A refusal has to leave the record as it was.
+fn put_booking(out: &mut [u8], before: Record, booking: Booking) -> usize {
+    let answer = booking.answer;
+    let after = booking.history;
+    let Answer::Refused(refusal) = answer else {
+        let end = put_bytes(out, 0, b"accepted");
+        return put_record(out, end, after);
+    };
+    if !is_same(before, after) {
+        return put_bytes(out, 0, b"refused, and the record changed");
+    }
+    put_refusal(out, refusal)
+}
+
+fn show_booking(before: Record, text: &[u8]) {
+    let mut line = line_space();
+    let out: &mut [u8] = &mut line;
+    let end = put_booking(out, before, book(before, text));
+    show(out, end);
+}
+
+pub fn book_case(cases: &[u8], at: usize, text: &mut [u8]) -> usize {
+    let stored = record_at(cases, at);
+    let expanded = text_at(cases, stored.next, text);
+    let before = stored.history;
+    show_booking(before, part(text, 0, expanded.end));
+    expanded.next
+}
+
+// The line of curves that were settled or read.
+fn put_answer(out: &mut [u8], curves: Curves) -> usize {
+    let answer = curves.answer;
+    let Answer::Refused(refusal) = answer else {
+        let set = curves.set;
+        let end = put_bytes(out, 0, b"accepted");
+        return put_curves(out, end, set);
+    };
+    put_refusal(out, refusal)
+}
+
+pub fn show_curves(curves: Curves) {
+    let mut line = line_space();
+    let out: &mut [u8] = &mut line;
+    let end = put_answer(out, curves);
+    show(out, end);
+}
+
+pub fn settle_case(cases: &[u8], at: usize) -> usize {
+    let stored = record_at(cases, at);
+    let voll = number_at(cases, stored.next);
+    let floor = number_at(cases, voll.next);
+    let history = stored.history;
+    show_curves(settle(history, voll.value, floor.value));
+    floor.next
+}
