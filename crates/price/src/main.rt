@@ -1,0 +1,18 @@
+// Prices one snapshot on a curve text: standard input to standard output.
+use block::write::Written;
+use libc::STDIN_FILENO;
+use libc::STDOUT_FILENO;
+
+fn main() {
+    // One byte more than the most that is accepted, so that a longer input is seen as such.
+    let mut input = [0u8; 65537];
+    let n = io::read_full(STDIN_FILENO, &mut input);
+    let mut output = [0u8; 256];
+    let written = price_text::price_text(&input[..n], &mut output);
+    let Written::Ended { next } = written else {
+        return;
+    };
+    if next <= 256 {
+        io::write_all(STDOUT_FILENO, &output[..next]);
+    }
+}

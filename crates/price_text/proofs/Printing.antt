@@ -1,0 +1,103 @@
+-- What is printed, by how reading the curves and pricing the snapshot ended.
+use Prim.Native.Nat.{ℕ, zero, suc, _+_, _-_, _≤_, _<_}
+use mathlib.Core.Path.{_≡_, refl, sym, ap, _∙_}
+use mathlib.Core.Bool.{Bool, true, false}
+use mathlib.Core.List.{List, [], _∷_}
+use native.Mathlib.Numerals.{add-one}
+use native.Mathlib.Omega.{arith}
+use borrow.Author.Tests.{lt-ltb, le-ltb}
+use lib.Dec.{ltb}
+use lib.ListN.{length, take, drop, length-drop}
+use lib.Seq.{take-all}
+use Rattle.text.specs.Choice.{pick}
+use Rattle.text.specs.Bytes.{bytes}
+use Rattle.text.specs.Line.{part}
+use Rattle.text.specs.declared.refusal.Refusal.{Refusal}
+use Rattle.block.specs.Output.{refusalLines}
+use Rattle.curve.specs.Curves.{curvesInRange, readCurves}
+use Rattle.curve.specs.declared.answer.Answer.{Answer}
+use Rattle.curve.specs.declared.answer.Answer.the-variants as answer
+use Rattle.curve.specs.declared.curves.Curves.{Curves}
+use Rattle.curve.specs.declared.curves.CurveSet.{CurveSet}
+use Rattle.adder.specs.Price.{pricesOf, refusedPricing, valueOfReserve}
+use Rattle.adder.specs.declared.price.Prices.{Prices}
+use Rattle.adder.specs.declared.price.Pricing.{Pricing}
+use Rattle.adder.specs.declared.price.Pricing.the-variants as pricing
+use Rattle.adder.proofs.Bounds.{curves-bound, header-bound, value-bound}
+use Rattle.adder.proofs.Order.{shortage-online-bound, shortage-offline-bound, offline-online-value}
+use Rattle.pricing.specs.Sums.{sumsOf}
+use Rattle.pricing.specs.Snapshot.{SnapshotAnswer, read, turned-back, snapshotIn, resourcesOf, pricedSnapshot, priced}
+use Rattle.pricing.proofs.Readings.{snapshot-read, header-fault}
+use Rattle.price_text.specs.Program.{beforeEmptyLine, curvePart, snapshotPart, SmallPrices, priceLines, onCurves, printedPrices, priceOutput}
+
+-- ---- the numbers of an accepted pricing are small
+
+abbrev SmallPricing : Pricing → Type 0
+SmallPricing (pricing.Priced p) = SmallPrices p
+SmallPricing (pricing.Refused found) = Unit
+
+snapshot-small : (curves : CurveSet) (text : List ℕ) (a : SnapshotAnswer) → curvesInRange curves ≡ true → snapshotIn text ≡ a → SmallPricing (pricedSnapshot curves a)
+unfolding pricesOf
+snapshot-small curves text (turned-back found) possible e = tt
+snapshot-small curves text (read h entries) possible e =
+    let s = sumsOf (resourcesOf entries) in
+    let value : valueOfReserve curves h ≤ 4000000 = value-bound (curves-bound curves possible) (header-bound h (header-fault (snapshot-read text e .header))) in
+    let most = offline-online-value curves h s in
+    record {
+      pis = shortage-online-bound curves h s;
+      pins = shortage-offline-bound curves h s;
+      online = omega (arith, most .1, value);
+      offline = omega (arith, most .0, most .1, value);
+    }
+
+priced-small : (curves : CurveSet) (text : List ℕ) → SmallPricing (priced curves text)
+unfolding priced
+priced-small curves text = go (curvesInRange curves) refl
+  where
+    go : (b : Bool) → curvesInRange curves ≡ b → SmallPricing (pick b (pricedSnapshot curves (snapshotIn text)) (refusedPricing 1 0))
+    go true e = snapshot-small curves text (snapshotIn text) e refl
+    go false e = tt
+
+pub accepted-small : (curves : CurveSet) (text : List ℕ) {p : Pricing} {prices : Prices} → p ≡ priced curves text → p ≡ pricing.Priced prices → SmallPrices prices
+accepted-small curves text {p} {prices} e f = rw (sym e ∙ f) at (priced-small curves text)
+
+-- ---- the two parts of the input
+
+curve-part : (input : List ℕ) (end : ℕ) → end ≡ beforeEmptyLine true input → part input 0 end ≡ curvePart input
+unfolding curvePart
+curve-part input end e =
+    let same : end - 0 ≡ beforeEmptyLine true input = omega arith in
+    ap (λ (n : ℕ). take n input) same
+
+snapshot-part : (input : List ℕ) (end : ℕ) → end ≡ beforeEmptyLine true input → part input (end + 1) (length input) ≡ snapshotPart input
+unfolding snapshotPart
+snapshot-part input end e =
+    let long : length (drop (end + 1) input) ≤ length input - (end + 1) = omega (arith, length-drop (end + 1) input) in
+    take-all _ _ long ∙ ap (λ (n : ℕ). drop n input) (add-one end ∙ ap suc e)
+
+-- ---- what is printed
+
+pub too-long : (input : List ℕ) → 65536 < length input → refusalLines (record { number = 2; line = 0 }) (bytes "curves") ≡ priceOutput input
+unfolding priceOutput
+too-long input h = simp (lt-ltb _ _ h)
+
+module _ (input : List ℕ) (end : ℕ) (short : length input ≤ 65536) (ends : end ≡ beforeEmptyLine true input) (curves : Curves) (took : curves ≡ readCurves (part input 0 end)) where
+  output : priceOutput input ≡ onCurves (curves .set) (curves .answer) (snapshotPart input)
+  unfolding priceOutput
+  output = simp (le-ltb _ _ short) (rw (took, curve-part input end ends) refl)
+
+  pub curves-refused : {found : Refusal} → curves .answer ≡ answer.Refused found → refusalLines found (bytes "curves") ≡ priceOutput input
+  curves-refused e = sym (output ∙ ap (λ (a : Answer). onCurves (curves .set) a (snapshotPart input)) e)
+
+  module _ (accepted : curves .answer ≡ answer.Accepted) (p : Pricing) (prices : p ≡ priced (curves .set) (part input (end + 1) (length input))) where
+    printed : priceOutput input ≡ printedPrices p
+    printed =
+        output
+        ∙ ap (λ (a : Answer). onCurves (curves .set) a (snapshotPart input)) accepted
+        ∙ ap printedPrices (sym (prices ∙ ap (priced (curves .set)) (snapshot-part input end ends)))
+
+    pub snapshot-refused : {found : Refusal} → p ≡ pricing.Refused found → refusalLines found (bytes "snapshot") ≡ priceOutput input
+    snapshot-refused e = sym (printed ∙ ap printedPrices e)
+
+    pub snapshot-priced : {six : Prices} → p ≡ pricing.Priced six → priceLines six ≡ priceOutput input
+    snapshot-priced e = sym (printed ∙ ap printedPrices e)

@@ -1,0 +1,2 @@
+-- Document 01, "Programs": what the program `price` makes of its input.
+pub mod Program

@@ -1,0 +1,63 @@
+-- Document 01, "Programs": `price` reads, in at most 65536 bytes (else 2), curve text, an empty line, a snapshot. It prints six lines, or the three lines of a
+-- refusal, and nothing else.
+use Prim.Native.Nat.{ℕ, zero, suc, _≤_}
+use mathlib.Core.Bool.{Bool, true, false}
+use mathlib.Core.List.{List, [], _∷_}
+use lib.Dec.{eqb, ltb}
+use lib.IntN.{ℤ, pos}
+use lib.ListN.{length, take, drop}
+use Rattle.text.specs.Choice.{pick}
+use Rattle.text.specs.Bytes.{bytes}
+use Rattle.block.specs.Block.{keysOf}
+use Rattle.block.specs.Write.{writtenNumbers}
+use Rattle.block.specs.Output.{refusalLines}
+use Rattle.curve.specs.Curves.{readCurves}
+use Rattle.curve.specs.declared.answer.Answer.{Answer}
+use Rattle.curve.specs.declared.answer.Answer.the-variants as answer
+use Rattle.curve.specs.declared.curves.CurveSet.{CurveSet}
+use Rattle.adder.specs.declared.price.Prices.{Prices}
+use Rattle.adder.specs.declared.price.Pricing.{Pricing}
+use Rattle.adder.specs.declared.price.Pricing.the-variants as pricing
+use Rattle.pricing.specs.Snapshot.{priced}
+
+-- how many bytes stand before the first empty line, byte 10 at a line's start, or at all where there is none; `atStart` says whether a line starts here
+unfoldable pub beforeEmptyLine : Bool → List ℕ → ℕ
+beforeEmptyLine atStart [] = 0
+beforeEmptyLine atStart (byte ∷ rest) =
+    pick (eqb byte 10) (pick atStart 0 (suc (beforeEmptyLine true rest))) (suc (beforeEmptyLine false rest))
+
+-- the curve text ends before the first empty line or at the input's end; the snapshot is what follows that line
+unfoldable pub curvePart : List ℕ → List ℕ
+curvePart input = take (beforeEmptyLine true input) input
+
+unfoldable pub snapshotPart : List ℕ → List ℕ
+snapshotPart input = drop (suc (beforeEmptyLine true input)) input
+
+-- probabilities and prices that fit their lines, as those of every accepted pricing do
+pub record SmallPrices (p : Prices) : Type 0 where
+  pub pis : p .pis ≤ 1000000000
+  pub pins : p .pins ≤ 1000000000
+  pub online : p .online ≤ 4000000
+  pub offline : p .offline ≤ 4000000
+
+-- `rs rsns pis pins online offline`, each with `=` and its number, one a line
+abbrev pub priceValues : Prices → List ℤ
+priceValues p =
+    p .rs ∷ p .rsns ∷ pos (p .pis) ∷ pos (p .pins) ∷ pos (p .online) ∷ pos (p .offline) ∷ []
+
+unfoldable pub priceLines : Prices → List ℕ
+priceLines p = writtenNumbers (keysOf (bytes "rs=rsns=pis=pins=online=offline=")) (priceValues p)
+
+abbrev pub printedPrices : Pricing → List ℕ
+printedPrices (pricing.Priced p) = priceLines p
+printedPrices (pricing.Refused found) = refusalLines found (bytes "snapshot")
+
+abbrev pub onCurves : CurveSet → Answer → List ℕ → List ℕ
+onCurves curves answer.Accepted snapshot = printedPrices (priced curves snapshot)
+onCurves curves (answer.Refused found) snapshot = refusalLines found (bytes "curves")
+
+unfoldable pub priceOutput : List ℕ → List ℕ
+priceOutput input =
+    pick (ltb 65536 (length input))
+    (refusalLines (record { number = 2; line = 0 }) (bytes "curves"))
+    (onCurves (readCurves (curvePart input) .set) (readCurves (curvePart input) .answer) (snapshotPart input))
