@@ -12,7 +12,5 @@ fn main() {
     let Written::Ended { next } = written else {
         return;
     };
-    if next <= 256 {
-        io::write_all(STDOUT_FILENO, &output[..next]);
-    }
+    io::write_all(STDOUT_FILENO, text::line::part(&output, 0, next));
 }

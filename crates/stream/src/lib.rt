@@ -5,12 +5,12 @@ use history::record::Record;
 use history::record::fresh;
 use text::refusal::Refusal;
 
-mod byte;
 mod output;
+mod taken;
 
-pub use byte::feed::feed;
-pub use byte::feed::is_refused;
 pub use output::finish;
+pub use taken::byte::feed::feed;
+pub use taken::byte::feed::is_refused;
 
 // What the stream waits for, or why it ended.
 pub enum Stage {
