@@ -23,7 +23,7 @@ const KEYS: [u8; 227] =
     *b"voll=floor=mu=sigma=mu=sigma=mu=sigma=mu=sigma=mu=sigma=mu=sigma=mu=sigma=mu=sigma=mu=sigma=mu=sigma=mu=sigma=mu=sigma=mu=sigma=mu=sigma=mu=sigma=mu=sigma=mu=sigma=mu=sigma=mu=sigma=mu=sigma=mu=sigma=mu=sigma=mu=sigma=mu=sigma=";
 
 // The values of a curve set in the order of its lines.
-fn values_of(curves: CurveSet) -> [i64; 50]
+pub fn values_of(curves: CurveSet) -> [i64; 50]
     ensures { λ r. ⌜ r ≡ curveValues curves ⌝ }
 {
     let voll = curves.voll;
@@ -52,7 +52,7 @@ fn bounds(voll: i64, floor: i64, mean: i64, spread: i64) -> [i64; 50]
 }
 
 // The curve set of values in the order of its lines.
-fn curves_of(values: [i64; 50]) -> CurveSet
+pub fn curves_of(values: [i64; 50]) -> CurveSet
     ensures { λ r. ⌜ r ≡ curvesOf values ⌝ }
 {
     let mut pairs = [Pair { mean: 0, spread: 0 }; 24];

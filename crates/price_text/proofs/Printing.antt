@@ -25,7 +25,7 @@ use Rattle.adder.specs.declared.price.Pricing.{Pricing}
 use Rattle.adder.specs.declared.price.Pricing.the-variants as pricing
 use Rattle.adder.proofs.Bounds.{curves-bound, header-bound, value-bound}
 use Rattle.adder.proofs.Order.{shortage-online-bound, shortage-offline-bound, offline-online-value}
-use Rattle.pricing.specs.Sums.{sumsOf}
+use Rattle.sums.specs.Sums.{sumsOf}
 use Rattle.pricing.specs.Snapshot.{SnapshotAnswer, read, turned-back, snapshotIn, resourcesOf, pricedSnapshot, priced}
 use Rattle.pricing.proofs.Readings.{snapshot-read, header-fault}
 use Rattle.price_text.specs.Program.{beforeEmptyLine, curvePart, snapshotPart, SmallPrices, priceLines, onCurves, printedPrices, priceOutput}

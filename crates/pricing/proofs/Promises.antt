@@ -1,28 +1,27 @@
--- Demand 3: the three statements, from the argument on prices, the order of prices and the fall of the means, which the crates below prove.
+-- Demand 3: the three statements of specs/Promises.antt, from the argument on prices, the order of prices and the fall of the means, which the crates below prove.
 use Prim.Native.Nat.{ℕ, _≤_}
-use native.Mathlib.Omega.{arith}
-use mathlib.Core.Path.{_≡_, refl, sym}
+use mathlib.Core.Path.{_≡_, refl}
 use mathlib.Core.Bool.{Bool, true, false}
 use mathlib.Core.List.{List}
-use lib.IntN.{ℤ}
 use lib.Signed.{_≤ℤ_, ≤ℤ-refl}
 use Rattle.text.specs.Choice.{pick}
 use Rattle.curve.specs.Curves.{curvesInRange}
 use Rattle.history.specs.Settle.{settled}
 use Rattle.history.specs.Record.{fresh}
-use Rattle.history.specs.Promises.{LoweredErrorsLowerMeans, bookedAll}
+use Rattle.history.specs.Promises.{bookedAll}
 use Rattle.curve.specs.declared.curves.CurveSet.{CurveSet}
 use Rattle.adder.specs.Price.{pairFor, pricesOf, refusedPricing}
-use Rattle.adder.specs.Promises.{CurvesLowered, MoreReserveNeverRaisesPrices, OfflineOnlineValue}
+use Rattle.adder.specs.Promises.{CurvesLowered}
+use Rattle.adder.proofs.Order.{more-reserve-never-raises-prices, offline-online-value}
 use Rattle.adder.specs.declared.sums.Header.{Header}
 use Rattle.adder.specs.declared.price.Prices.{Prices}
-use Rattle.adder.specs.declared.price.Pricing.{Pricing}
 use Rattle.adder.specs.declared.price.Pricing.the-variants as pricing
-use Rattle.pricing.specs.Sums.{sumsOf}
+use Rattle.sums.specs.Sums.{sumsOf}
 use Rattle.pricing.specs.Snapshot.{Entry, SnapshotAnswer, read, turned-back, snapshotIn, resourcesOf, pricedSnapshot, priced}
 use Rattle.pricing.specs.Promises.{SnapshotRaised, snapshot-raised, NeitherPriceRises, RaisedReserveNeverRaisesPrices, RaisedReserveNeverRaisesPricesOnCurves, OfflineOnlineValueInOrder}
-use Rattle.pricing.proofs.Parts.{raised-sums, offline-nonneg}
-use Rattle.pricing.proofs.Readings.{HeaderInRange, SnapshotRead, snapshot-read}
+use Rattle.pricing.proofs.Raised.{raised-sums}
+use Rattle.sums.proofs.Parts.{offline-nonneg}
+use Rattle.pricing.proofs.Readings.{HeaderInRange, snapshot-read}
 use Rattle.pricing.proofs.Settling.{curves-lowered}
 
 -- the prices of an accepted pricing
@@ -39,28 +38,27 @@ prices-are curves text {h} {entries} {prices} is e = go (curvesInRange curves) (
     go true (turned-back found) is e = cc
     go true (read h′ entries′) is e = cc
 
-module _ (more : MoreReserveNeverRaisesPrices) where
-  -- on any two curve sets of which the second is lower in the groups of headers in range
-  raised :
-      (first second : CurveSet) (text text′ : List ℕ) (prices prices′ : Prices) (a a′ : SnapshotAnswer) → snapshotIn text ≡ a → snapshotIn text′ ≡ a′ →
-      ((h : Header) → HeaderInRange h → CurvesLowered h first second) → SnapshotRaised a a′ →
-      priced first text ≡ pricing.Priced prices → priced second text′ ≡ pricing.Priced prices′ → NeitherPriceRises prices prices′
-  raised first second text text′ prices prices′ a a′ is is′ lower (snapshot-raised {h} {h′} {entries} {entries′} header all) e e′ =
-      let r = snapshot-read text is in
-      rw (← prices-are first text is e, ← prices-are second text′ is′ e′)
-      (more first second h h′ (sumsOf (resourcesOf entries)) (sumsOf (resourcesOf entries′)) (r .header .factor .0) (offline-nonneg (r .resources .ranged))
-      header (lower h (r .header)) (raised-sums all))
+-- on any two curve sets of which the second is lower in the groups of headers in range
+raised :
+    (first second : CurveSet) (text text′ : List ℕ) (prices prices′ : Prices) (a a′ : SnapshotAnswer) → snapshotIn text ≡ a → snapshotIn text′ ≡ a′ →
+    ((h : Header) → HeaderInRange h → CurvesLowered h first second) → SnapshotRaised a a′ →
+    priced first text ≡ pricing.Priced prices → priced second text′ ≡ pricing.Priced prices′ → NeitherPriceRises prices prices′
+raised first second text text′ prices prices′ a a′ is is′ lower (snapshot-raised {h} {h′} {entries} {entries′} header all) e e′ =
+    let r = snapshot-read text is in
+    rw (← prices-are first text is e, ← prices-are second text′ is′ e′)
+    (more-reserve-never-raises-prices first second h h′ (sumsOf (resourcesOf entries)) (sumsOf (resourcesOf entries′)) (r .header .factor .0) (offline-nonneg (r .resources .ranged))
+    header (lower h (r .header)) (raised-sums all))
 
-  pub raised-reserve-on-curves : RaisedReserveNeverRaisesPricesOnCurves
-  raised-reserve-on-curves curves snapshot snapshot′ first second up e e′ =
-      raised curves curves snapshot snapshot′ first second (snapshotIn snapshot) (snapshotIn snapshot′) refl refl
-      (λ h ranged. record { voll = refl; floor = refl; mean = ≤ℤ-refl (pairFor curves h .mean); spread = refl }) up e e′
+pub raised-reserve-never-raises-prices-on-curves : RaisedReserveNeverRaisesPricesOnCurves
+raised-reserve-never-raises-prices-on-curves curves snapshot snapshot′ first second up e e′ =
+    raised curves curves snapshot snapshot′ first second (snapshotIn snapshot) (snapshotIn snapshot′) refl refl
+    (λ h ranged. record { voll = refl; floor = refl; mean = ≤ℤ-refl (pairFor curves h .mean); spread = refl }) up e e′
 
-  pub raised-reserve : LoweredErrorsLowerMeans → RaisedReserveNeverRaisesPrices
-  raised-reserve means d texts texts′ voll floor snapshot snapshot′ first second lists accepted accepted′ up e e′ =
-      raised (settled (bookedAll fresh texts) voll floor .set) (settled (bookedAll fresh texts′) voll floor .set) snapshot snapshot′ first second
-      (snapshotIn snapshot) (snapshotIn snapshot′) refl refl (curves-lowered means d texts texts′ voll floor lists accepted accepted′) up e e′
+pub raised-reserve-never-raises-prices : RaisedReserveNeverRaisesPrices
+raised-reserve-never-raises-prices d texts texts′ voll floor snapshot snapshot′ first second lists accepted accepted′ up e e′ =
+    raised (settled (bookedAll fresh texts) voll floor .set) (settled (bookedAll fresh texts′) voll floor .set) snapshot snapshot′ first second
+    (snapshotIn snapshot) (snapshotIn snapshot′) refl refl (curves-lowered d texts texts′ voll floor lists accepted accepted′) up e e′
 
-pub prices-in-order : OfflineOnlineValue → OfflineOnlineValueInOrder
-prices-in-order order curves snapshot h entries prices is e =
-    rw (← prices-are curves snapshot is e) (order curves h (sumsOf (resourcesOf entries)))
+pub offline-online-value-in-order : OfflineOnlineValueInOrder
+offline-online-value-in-order curves snapshot h entries prices is e =
+    rw (← prices-are curves snapshot is e) (offline-online-value curves h (sumsOf (resourcesOf entries)))

@@ -1,8 +1,8 @@
 -- Two lists of bookings, the second with every hour-ahead reserve lower by the same d: the curves that settling gives have the same VOLL and X, and in the group
 -- of any header that was read no higher mean and the same spread.
-use Prim.Native.Nat.{ℕ, zero, suc, _+_, _*_, _/_, _%_, _≤_, _<_}
+use Prim.Native.Nat.{ℕ, zero, suc, _≤_, _<_}
 use native.Mathlib.Omega.{arith}
-use mathlib.Core.Path.{_≡_, refl, sym, ap, _∙_}
+use mathlib.Core.Path.{_≡_, refl, _∙_}
 use mathlib.Core.Bool.{Bool, true, false}
 use mathlib.Core.List.{List, [], _∷_, map}
 use borrow.Author.Tests.{ltb-false}
@@ -11,15 +11,15 @@ use lib.IntN.{ℤ, pos, natAbs, _-ℤ_}
 use lib.ListN.{length, getD, length-set}
 use lib.Signed.{_≤ℤ_}
 use Rattle.integer.proofs.Difference.{view, toℕ}
-use Rattle.integer.proofs.Order.{≤ℤ-of-≡}
 use Rattle.text.specs.Choice.{pick}
 use Rattle.curve.specs.Season.{seasonOf, blockOf, groupOf}
-use Rattle.hour.specs.Hour.{Hour, HourAnswer, read, refused, hourIn, hourGroup, errorOf}
+use Rattle.hour.specs.Hour.{HourAnswer, read, refused, hourIn, hourGroup, errorOf}
 use Rattle.curve.specs.Answer.{refusal}
 use Rattle.history.specs.Record.{noHours, fresh, groupAt, meanOf, allPossible, withGroup, withError, kept, bookError, bookHour, booked}
 use Rattle.curve.specs.Curves.{vollInRange, floorInRange, refusedCurves}
 use Rattle.history.specs.Settle.{spreadOf, pairOf, settledGroups, settledSet, settled}
-use Rattle.history.specs.Promises.{bookedAll, ListsLowered, LoweredErrorsLowerMeans}
+use Rattle.history.specs.Promises.{bookedAll, ListsLowered}
+use Rattle.history.proofs.Shift.{lowered-errors-lower-means}
 use Rattle.curve.specs.declared.answer.Answer.{Answer}
 use Rattle.curve.specs.declared.answer.Answer.the-variants as answer
 use Rattle.history.specs.declared.record.Group.{Group}
@@ -27,10 +27,9 @@ use Rattle.history.specs.declared.record.Record.{Record}
 use Rattle.curve.specs.declared.curves.Pair.{Pair}
 use Rattle.curve.specs.declared.curves.CurveSet.{CurveSet}
 use Rattle.curve.specs.declared.curves.Curves.{Curves}
-use Rattle.adder.specs.Price.{pairFor}
 use Rattle.adder.specs.Promises.{CurvesLowered}
 use Rattle.adder.specs.declared.sums.Header.{Header}
-use Rattle.pricing.specs.Range.{Between}
+use Rattle.resource.specs.Range.{Between}
 use Rattle.pricing.proofs.Readings.{HeaderInRange}
 
 -- ---- a record keeps its twenty-four groups
@@ -123,23 +122,22 @@ pair-settled texts voll floor g d h s =
     let two = two-hours 0 (bookedAll fresh texts .groups) (s .groups) g n in
     (rw (s .set) (map-at pairOf (bookedAll fresh texts .groups) g d noHours n), omega arith)
 
-module _ (means : LoweredErrorsLowerMeans) where
-  pub curves-lowered :
-      (d : ℕ) (texts texts′ : List (List ℕ)) (voll floor : ℤ) → ListsLowered d fresh fresh texts texts′ →
-      settled (bookedAll fresh texts) voll floor .answer ≡ answer.Accepted → settled (bookedAll fresh texts′) voll floor .answer ≡ answer.Accepted →
-      (h : Header) → HeaderInRange h → CurvesLowered h (settled (bookedAll fresh texts) voll floor .set) (settled (bookedAll fresh texts′) voll floor .set)
-  unfolding pairOf
-  curves-lowered d texts texts′ voll floor lists accepted accepted′ h ranged =
-      let g : ℕ = groupOf (natAbs (h .month)) (natAbs (h .hour)) in
-      let below = group-below (natAbs (h .month)) (natAbs (h .hour)) (hour-below (h .hour) (ranged .hour)) in
-      let s = settled-as (bookedAll fresh texts) voll floor accepted in
-      let s′ = settled-as (bookedAll fresh texts′) voll floor accepted′ in
-      let p = pair-settled texts voll floor g (record { mean = pos 0; spread = pos 0 }) below s in
-      let p′ = pair-settled texts′ voll floor g (record { mean = pos 0; spread = pos 0 }) below s′ in
-      let same = means d texts texts′ lists g .1 (p .1) in
-      record {
-        voll = rw (s .set, s′ .set);
-        floor = rw (s .set, s′ .set);
-        mean = rw (p .0, p′ .0, same .0) (not-higher (meanOf (groupAt (bookedAll fresh texts) g)) d);
-        spread = rw (p .0, p′ .0, same .1);
-      }
+pub curves-lowered :
+    (d : ℕ) (texts texts′ : List (List ℕ)) (voll floor : ℤ) → ListsLowered d fresh fresh texts texts′ →
+    settled (bookedAll fresh texts) voll floor .answer ≡ answer.Accepted → settled (bookedAll fresh texts′) voll floor .answer ≡ answer.Accepted →
+    (h : Header) → HeaderInRange h → CurvesLowered h (settled (bookedAll fresh texts) voll floor .set) (settled (bookedAll fresh texts′) voll floor .set)
+unfolding pairOf
+curves-lowered d texts texts′ voll floor lists accepted accepted′ h ranged =
+    let g : ℕ = groupOf (natAbs (h .month)) (natAbs (h .hour)) in
+    let below = group-below (natAbs (h .month)) (natAbs (h .hour)) (hour-below (h .hour) (ranged .hour)) in
+    let s = settled-as (bookedAll fresh texts) voll floor accepted in
+    let s′ = settled-as (bookedAll fresh texts′) voll floor accepted′ in
+    let p = pair-settled texts voll floor g (record { mean = pos 0; spread = pos 0 }) below s in
+    let p′ = pair-settled texts′ voll floor g (record { mean = pos 0; spread = pos 0 }) below s′ in
+    let same = lowered-errors-lower-means d texts texts′ lists g .1 (p .1) in
+    record {
+      voll = rw (s .set, s′ .set);
+      floor = rw (s .set, s′ .set);
+      mean = rw (p .0, p′ .0, same .0) (not-higher (meanOf (groupAt (bookedAll fresh texts) g)) d);
+      spread = rw (p .0, p′ .0, same .1);
+    }

@@ -1,11 +1,13 @@
 -- Laws on a snapshot's text: from the readers' answers to its header and its sums.
 use Prim.Native.Nat.{ℕ, _≤_, _<_}
-use mathlib.Core.Path.{_≡_, refl, ap, sym, _∙_}
+use mathlib.Core.Path.{_≡_, refl, sym, _∙_}
 use mathlib.Core.Bool.{true, false}
-use mathlib.Core.List.{List, [], _∷_}
+use mathlib.Core.List.{List, [], _∷_, _++_}
 use borrow.Author.Tests.{lt-ltb, le-ltb}
-use lib.IntN.{ℤ, natAbs}
-use lib.ListN.{length}
+use lib.IntN.{ℤ, pos, negℤ, natAbs}
+use lib.ListN.{length, replicate}
+use Rattle.text.specs.Bytes.{bytes}
+use Rattle.text.specs.Piece.{piecesFrom}
 use Rattle.text.specs.Refusal.{refusalOf}
 use Rattle.text.specs.Line.{endAt, endFault}
 use Rattle.text.specs.declared.refusal.Fault.{Fault}
@@ -13,7 +15,7 @@ use Rattle.text.specs.declared.refusal.Refusal.{Refusal}
 use Rattle.text.specs.declared.line.End.{End}
 use Rattle.text.specs.declared.line.End.the-variants as end
 use Rattle.value.specs.Field.{Answer, got, refused}
-use Rattle.block.specs.Block.{readFields, BlockRead, blockFault}
+use Rattle.block.specs.Block.{readFields, numberFields, BlockRead, blockFault}
 use Rattle.block.specs.declared.read.Block.{Block}
 use Rattle.block.specs.declared.read.Block.the-variants as block
 use Rattle.block.specs.Block.{value}
@@ -25,16 +27,27 @@ use Rattle.adder.proofs.Accepted.{sums-priced}
 use Rattle.adder.specs.Sums.{headerFields}
 use Rattle.adder.specs.declared.sums.Header.{Header}
 use Rattle.adder.specs.declared.sums.Sums.{Sums}
-use Rattle.pricing.specs.Resource.{resourceAt}
-use Rattle.pricing.specs.Sums.{sumsOf}
+use Rattle.resource.specs.Resource.{resourceAt}
+use Rattle.sums.specs.Sums.{sumsOf}
 use Rattle.pricing.specs.Snapshot.{Entry, headerOf, resourcesAt, resourcesOf, summed, resourcesAnswer, resourcesFault, afterLast, afterResources, afterHeader, SnapshotAnswer, read, turned-back, snapshotIn, snapshotSums, pricedSnapshot, priced}
 use Rattle.pricing.specs.declared.snapshot.resources.Resources.{Resources}
 use Rattle.pricing.specs.declared.snapshot.resources.Resources.the-variants as resources
 use Rattle.pricing.specs.declared.snapshot.Snapshot.{Snapshot}
 use Rattle.pricing.specs.declared.snapshot.Snapshot.the-variants as snapshot
-use Rattle.pricing.proofs.Lines.{headerSchema, places, block-ended, block-filled}
-use Rattle.pricing.proofs.Parts.{sums-possible}
+use Rattle.resource.proofs.Lines.{Schema, places, block-ended, block-filled}
+use Rattle.sums.proofs.Parts.{sums-possible}
 use Rattle.pricing.proofs.Readings.{header-read, few, header-fault, snapshot-read, few-resources}
+
+-- the header as the code hands its schema over
+unfoldable pub headerSchema : Schema headerFields
+unfolding headerFields bytes numberFields piecesFrom
+headerSchema =
+    record {
+      keys = bytes "month=hour=lambda=factor=prc=eea1=short=count=";
+      lows = pos 1 ∷ pos 0 ∷ negℤ (pos 2000000) ∷ replicate 5 (pos 0);
+      highs = pos 12 ∷ pos 23 ∷ pos 2000000 ∷ pos 10000 ∷ replicate 3 (pos 200000000) ++ (pos 4096 ∷ []);
+      same = refl;
+    }
 
 -- what is left once the sums are known: bytes after the last line
 abbrev ended : List ℕ → Header → Sums → End → Snapshot

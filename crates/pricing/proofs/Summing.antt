@@ -1,7 +1,6 @@
 -- Laws on the resources one after the other: the sums so far and the resources that are left make up the whole.
-use Prim.Native.Nat.{ℕ, zero, suc, _+_, _-_, _≤_, _<_}
+use Prim.Native.Nat.{ℕ, suc, _+_, _-_, _≤_, _<_}
 use native.Mathlib.Nat.{sub-zero}
-use native.Mathlib.Numerals.{add-one}
 use native.Mathlib.Omega.{arith}
 use mathlib.Core.Path.{_≡_, refl, ap, sym, _∙_}
 use mathlib.Core.List.{List, [], _∷_}
@@ -13,19 +12,18 @@ use Rattle.text.specs.declared.refusal.Fault.{Fault}
 use Rattle.text.specs.declared.line.Line.{Line}
 use Rattle.text.specs.declared.line.Line.the-variants as line
 use Rattle.value.specs.Field.{Answer, got, refused}
-use Rattle.value.specs.Id.{idAnswer}
 use Rattle.adder.specs.Sums.{noSums, plus}
 use Rattle.adder.specs.declared.sums.Sums.{Sums}
-use Rattle.pricing.specs.Resource.{afterAnswer, resourceAt, linesAnswer, linesFault}
-use Rattle.pricing.specs.Range.{ResourceInRange, SumsWithin}
-use Rattle.pricing.specs.Sums.{partOf, sumsOf}
+use Rattle.resource.specs.Resource.{afterAnswer, resourceAt, linesAnswer, linesFault}
+use Rattle.sums.specs.Range.{SumsWithin}
+use Rattle.sums.specs.Sums.{partOf, sumsOf}
 use Rattle.pricing.specs.Snapshot.{Entry, newIdAt, withEntry, resourcesAt, summed}
 use Rattle.pricing.specs.Ids.{idsAbove, IdTable, IdKept, Room}
-use Rattle.pricing.specs.declared.resource.Resource.{Resource}
-use Rattle.pricing.specs.declared.resource.ResourceLines.{ResourceLines}
-use Rattle.pricing.specs.declared.resource.ResourceLines.the-variants as lines
-use Rattle.pricing.proofs.Parts.{part-within, plus-within, within-more, none-within}
-use Rattle.pricing.proofs.Readings.{resource-read}
+use Rattle.resource.specs.declared.Resource.{Resource}
+use Rattle.resource.specs.declared.ResourceLines.{ResourceLines}
+use Rattle.resource.specs.declared.ResourceLines.the-variants as lines
+use Rattle.sums.proofs.Parts.{part-within, plus-within, none-within}
+use Rattle.resource.proofs.Readings.{resource-read}
 
 -- ---- sums add up
 

@@ -1,10 +1,10 @@
 -- Laws on taking in an id: refused lines, an id that stands above, and a new one.
-use Prim.Native.Nat.{ℕ, suc, _+_, _<_}
+use Prim.Native.Nat.{ℕ, _+_, _<_}
 use native.Mathlib.Omega.{arith}
-use mathlib.Core.Path.{_≡_, refl, ap, sym, _∙_}
-use mathlib.Core.Bool.{Bool, true, false}
-use mathlib.Core.List.{List, [], _∷_}
-use lib.ListN.{length, getD, set, replicate}
+use mathlib.Core.Path.{_≡_}
+use mathlib.Core.Bool.{true, false}
+use mathlib.Core.List.{List}
+use lib.ListN.{length, getD, set}
 use Rattle.text.specs.Bytes.{bytes}
 use Rattle.text.specs.Line.{part, fault}
 use Rattle.text.specs.declared.refusal.Fault.{Fault}
@@ -12,7 +12,7 @@ use Rattle.text.specs.declared.line.Line.{Line}
 use Rattle.text.specs.declared.line.Line.the-variants as line
 use Rattle.value.specs.Field.{fieldAt}
 use Rattle.value.specs.Id.{idField, idAnswer}
-use Rattle.pricing.specs.Snapshot.{standsIn, newIdAt}
+use Rattle.pricing.specs.Snapshot.{standsIn}
 use Rattle.pricing.specs.Ids.{bucketOf, idsAbove, IdTable, IdKept}
 use Rattle.pricing.proofs.Buckets.{above-new, table-more}
 

@@ -28,7 +28,7 @@ use Rattle.block.specs.Block.{repeated}
 use Rattle.hour.specs.Hour.{HourAnswer, hourOf, read, hourFields, runFields, runsOf, hourIn, hourAhead, scedReserve, scedSum, errorOf}
 use Rattle.history.specs.Record.{fresh, allPossible, possible, meanOf, squaresAround, kept, bookError, bookHour, withError, booked}
 use Rattle.history.specs.Settle.{spreadOf, pairOf, settledGroups, settled}
-use Rattle.history.specs.Promises.{bookedAll, HourLowered, hour-lowered, PlaceLowered, both-accepted, ListsLowered}
+use Rattle.history.specs.Promises.{bookedAll, HourLowered, hour-lowered, both-accepted, ListsLowered}
 use Rattle.curve.specs.declared.answer.Answer.{Answer}
 use Rattle.curve.specs.declared.answer.Answer.the-variants as answer
 use Rattle.history.specs.declared.record.Booking.{Booking}
@@ -41,17 +41,17 @@ use Rattle.adder.specs.Reserve.{twiceLoads, twiceOnline, twiceAll, discounted, 
 use Rattle.adder.specs.Price.{valueOfReserve, rounded, shortageOnline, shortageOffline, pricesOf}
 use Rattle.adder.specs.declared.price.Prices.{Prices}
 use Rattle.adder.specs.declared.price.Pricing.the-variants as pricing
-use Rattle.pricing.specs.Sums.{countedOnline, partOf, sumsOf}
+use Rattle.sums.specs.Sums.{countedOnline, partOf, sumsOf}
 use Rattle.pricing.specs.Promises.{ResourceRaised, generator-raised, one-raised, none-raised, SnapshotRaised, snapshot-raised}
 use Rattle.adder.specs.declared.sums.Header.{Header}
-use Rattle.pricing.specs.Resource.{generatorFields, controllableFields, loadFields, resourceAt}
+use Rattle.resource.specs.Resource.{generatorFields, controllableFields, loadFields, resourceAt}
 use Rattle.pricing.specs.Snapshot.{Entry, standsIn, sameBytes, resourcesAt, snapshotIn, priced}
 use Rattle.pricing.specs.Snapshot as snapshot-in
-use Rattle.pricing.specs.declared.resource.Kind.{Kind}
-use Rattle.pricing.specs.declared.resource.Kind.the-variants as kind
-use Rattle.pricing.specs.declared.resource.Status.{Status}
-use Rattle.pricing.specs.declared.resource.Status.the-variants as status
-use Rattle.pricing.specs.declared.resource.Resource.the-variants as resource
+use Rattle.resource.specs.declared.Kind.{Kind}
+use Rattle.resource.specs.declared.Kind.the-variants as kind
+use Rattle.resource.specs.declared.Status.{Status}
+use Rattle.resource.specs.declared.Status.the-variants as status
+use Rattle.resource.specs.declared.Resource.the-variants as resource
 
 -- ---- the hours: HA is all of the error
 

@@ -1,7 +1,5 @@
--- Document 01, "Snapshot to reserves": the snapshot text, its resources and their sums; pricing a snapshot; the statements of the three demands.
-pub mod Resource
-pub mod Range
-pub mod Sums
+-- Document 01, "Snapshot to reserves" and "The two prices": the snapshot text; pricing a snapshot; the statements of demand 3.
 pub mod Snapshot
 pub mod Ids
+pub mod Known
 pub mod Promises

@@ -15,11 +15,11 @@ use Rattle.adder.specs.declared.sums.Header.{Header}
 use Rattle.adder.specs.declared.price.Prices.{Prices}
 use Rattle.adder.specs.declared.price.Pricing.the-variants as pricing
 use Rattle.pricing.specs.Snapshot.{Entry, SnapshotAnswer, read, snapshotIn, priced}
-use Rattle.pricing.specs.declared.resource.Generator.{Generator}
-use Rattle.pricing.specs.declared.resource.Controllable.{Controllable}
-use Rattle.pricing.specs.declared.resource.Load.{Load}
-use Rattle.pricing.specs.declared.resource.Resource.{Resource}
-use Rattle.pricing.specs.declared.resource.Resource.the-variants as resource
+use Rattle.resource.specs.declared.Generator.{Generator}
+use Rattle.resource.specs.declared.Controllable.{Controllable}
+use Rattle.resource.specs.declared.Load.{Load}
+use Rattle.resource.specs.declared.Resource.{Resource}
+use Rattle.resource.specs.declared.Resource.the-variants as resource
 
 -- ---- raised reserve: lower and higher are said of the second against the first
 

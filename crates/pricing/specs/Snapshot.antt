@@ -3,7 +3,7 @@ use Prim.Native.Nat.{ℕ, zero, suc}
 use mathlib.Core.Bool.{Bool, true, false, _||_}
 use mathlib.Core.List.{List, [], _∷_, map}
 use lib.Dec.{ltb, eqb}
-use lib.IntN.{ℤ, pos, natAbs}
+use lib.IntN.{ℤ, natAbs}
 use lib.ListN.{length}
 use Rattle.text.specs.Choice.{pick}
 use Rattle.text.specs.Bytes.{bytes}
@@ -27,9 +27,9 @@ use Rattle.adder.specs.declared.sums.Header.{Header}
 use Rattle.adder.specs.declared.sums.Sums.{Sums}
 use Rattle.adder.specs.declared.price.Pricing.{Pricing}
 use Rattle.adder.specs.declared.price.Pricing.the-variants as pricing
-use Rattle.pricing.specs.Resource.{afterAnswer, resourceAt}
-use Rattle.pricing.specs.Sums.{sumsOf}
-use Rattle.pricing.specs.declared.resource.Resource.{Resource}
+use Rattle.resource.specs.Resource.{afterAnswer, resourceAt}
+use Rattle.sums.specs.Sums.{sumsOf}
+use Rattle.resource.specs.declared.Resource.{Resource}
 use Rattle.pricing.specs.declared.snapshot.resources.Resources.{Resources}
 use Rattle.pricing.specs.declared.snapshot.resources.Resources.the-variants as resources
 use Rattle.pricing.specs.declared.snapshot.Snapshot.{Snapshot}

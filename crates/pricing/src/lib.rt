@@ -1,6 +1,4 @@
-// Pricing a snapshot: its text, its resources, their sums, and the two prices.
+// Pricing a snapshot: its text, the ids and sums of its resources, and the two prices.
 mod ids;
 pub mod price;
-pub mod resource;
-pub mod snapshot;
-pub mod sums;
+mod snapshot;

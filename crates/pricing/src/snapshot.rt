@@ -1,10 +1,10 @@
 // A snapshot's text: its header, and the sums of its resources.
-pub mod resources;
+pub(crate) mod resources;
 
 ghost use mathlib.Core.Path.{_≡_};
 ghost use mathlib.Core.List.{[]};
 ghost use Prim.Native.Nat.{_≤_};
-ghost use Rattle.pricing.specs.Resource.{resourceAt};
+ghost use Rattle.resource.specs.Resource.{resourceAt};
 ghost use Rattle.pricing.specs.Snapshot.{headerOf, resourcesAt, summed, resourcesAnswer, snapshotIn, snapshotSums};
 use crate::snapshot::resources::Resources;
 use crate::snapshot::resources::resources_at;
@@ -94,7 +94,7 @@ fn counted_resources(text: &[u8], at: usize, count: usize) -> Resources
 }
 
 // A snapshot's text read.
-pub fn read_snapshot(text: &[u8]) -> Snapshot
+pub(crate) fn read_snapshot(text: &[u8]) -> Snapshot
     ensures { λ r. ⌜ r ≡ snapshotSums (snapshotIn (now (text .entry))) ⌝ }
 {
     if 1048576 < text.len() {

@@ -1,18 +1,16 @@
 // The resources of a snapshot, one after the other: each id is new, and each resource's part is added to the sums.
 ghost use mathlib.Core.Path.{_≡_};
 ghost use mathlib.Core.List.{[]};
-ghost use Prim.Native.Nat.{_≤_};
-ghost use lib.ListN.{length};
 ghost use Rattle.adder.specs.Sums.{plus};
-ghost use Rattle.pricing.specs.Range.{SumsWithin};
-ghost use Rattle.pricing.specs.Resource.{linesFault, resourceAt};
+ghost use Rattle.sums.specs.Range.{SumsWithin};
+ghost use Rattle.resource.specs.Resource.{linesFault, resourceAt};
 ghost use Rattle.pricing.specs.Snapshot.{resourcesAt, summed, resourcesAnswer, resourcesFault};
 ghost use Rattle.pricing.specs.Ids.{IdTable, Room};
 use crate::ids::new_id;
-use crate::resource::ResourceLines;
-use crate::resource::resource_at;
-use crate::sums::part_of;
 use adder::sums::Sums;
+use resource::ResourceLines;
+use resource::resource_at;
+use sums::part_of;
 use text::line::Line;
 use text::line::fault_of;
 use text::refusal::Fault;

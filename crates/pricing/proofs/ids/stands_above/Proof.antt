@@ -1,9 +1,9 @@
-use Prim.Native.Nat.{_-_, _≤_, _<_}
+use Prim.Native.Nat.{_-_, _<_}
 use mathlib.Core.Path.{_≡_, sym, ap, _∙_}
 use native.Mathlib.Omega.{arith}
-use lib.ListN.{length, getD}
+use lib.ListN.{length}
 use Rattle.pricing.specs.Snapshot.{sameBytes}
-use Rattle.pricing.specs.Ids.{IdTable, bucketOf, idOf}
+use Rattle.pricing.specs.Ids.{IdTable, idOf}
 use Rattle.pricing.proofs.Buckets.{bucket-small, NoneFrom, none-start, none-more, none-found, none-over}
 use Rattle.pricing.proofs.ids.stands_above.Statement.{statement}
 use Rattle.pricing.proofs.ids.stands_above.Tie as tie

@@ -1,4 +1,4 @@
-use mathlib.Core.Path.{_≡_, refl}
+use mathlib.Core.Path.{refl}
 use lib.Dec.{lit≤}
 use lib.ListN.{replicate}
 use Rattle.pricing.proofs.Buckets.{table-none, room}

@@ -6,7 +6,7 @@ use mir.Syntax.{w64}
 use Rattle.text.specs.Bytes.{bytes}
 use Rattle.block.specs.Block.{value}
 use Rattle.adder.specs.Sums.{headerFields}
-use Rattle.pricing.proofs.Lines.{headerSchema}
+use Rattle.pricing.proofs.Snapshots.{headerSchema}
 use Rattle.pricing.proofs.Snapshots.{snapshot-long, snapshot-header, count-few, snapshot-resources, snapshot-end, snapshot-whole}
 use native.Mathlib.Omega.{arith}
 use Rattle.pricing.proofs.snapshot.read_snapshot.Statement.{statement}

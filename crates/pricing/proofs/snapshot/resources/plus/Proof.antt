@@ -1,9 +1,9 @@
-use mathlib.Core.Path.{_≡_, refl}
+use mathlib.Core.Path.{refl}
 use borrow.Author.Needs.{sfits-of}
 use mir.Facts.{toZ-ofZ}
 use mir.Syntax.{w64}
 use Rattle.adder.specs.Sums.{plus}
-use Rattle.pricing.proofs.Parts.{SumsFit, plus-fits}
+use Rattle.sums.proofs.Parts.{SumsFit, plus-fits}
 use Rattle.pricing.proofs.snapshot.resources.plus.Statement.{statement}
 use Rattle.pricing.proofs.snapshot.resources.plus.Tie as tie
 

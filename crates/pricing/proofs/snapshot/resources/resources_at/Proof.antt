@@ -1,6 +1,5 @@
 use Prim.Native.Nat.{_-_}
-use mathlib.Core.Path.{_≡_, refl}
-use Rattle.pricing.proofs.Parts.{within-more}
+use Rattle.sums.proofs.Parts.{within-more}
 use Rattle.pricing.proofs.Summing.{Summing, summing-start, summing-id, summing-refused, summing-in-range, summing-more, summing-over}
 use native.Mathlib.Omega.{arith}
 use Rattle.pricing.proofs.snapshot.resources.resources_at.Statement.{statement}

@@ -1,0 +1,87 @@
+/* Books hours, settles them, writes and reads the curve text, then prices a snapshot. */
+#include "ordc.h"
+
+#include <inttypes.h>
+#include <stdio.h>
+#include <stdlib.h>
+#include <string.h>
+
+static void expect_accepted(const char *what, struct ordc_refusal refusal)
+{
+    if (refusal.number != ORDC_ACCEPTED) {
+        fprintf(stderr, "%s: refused %" PRIu64 ", line %" PRIu64 "\n", what, refusal.number, refusal.line);
+        exit(EXIT_FAILURE);
+    }
+}
+
+static void expect_refused(const char *what, struct ordc_refusal refusal, uint64_t number, uint64_t line)
+{
+    if (refusal.number != number || refusal.line != line) {
+        fprintf(stderr, "%s: got %" PRIu64 ", line %" PRIu64 "\n", what, refusal.number, refusal.line);
+        exit(EXIT_FAILURE);
+    }
+}
+
+/* An hour of one run whose reserve error is `error`, which is -1 or above. */
+static struct ordc_refusal book_error(int64_t record[ORDC_RECORD], int month, int hour, int error)
+{
+    char text[512];
+    int length = snprintf(text, sizeof text,
+                          "month=%d\nhour=%d\nongen=%d\nload=0\ntie=0\nns=0\nreg=0\nrrs=0\nnclr=0\noffns=0\ncold30=0\nshed=0\n"
+                          "runs=1\nhsl=1\nbase=0\nrrs=0\nnclr=0\nreg=0\nns=0\noffns=0\ncold30=0\nshort=0\n",
+                          month, hour, error + 1);
+    return ordc_book(record, (const uint8_t *)text, (size_t)length);
+}
+
+static const char SNAPSHOT[] =
+    "month=7\nhour=14\nlambda=2500\nfactor=10000\nprc=3000000\neea1=2300000\nshort=0\ncount=3\n"
+    "id=A\nkind=gen\nstatus=ON\nnet=200000\nlsl=100000\nhsl=2000000\nbase=200000\nnonspin=0\ncold30=0\n"
+    "id=B\nkind=gen\nstatus=ON\nnet=95000\nlsl=100000\nhsl=1000000\nbase=93000\nnonspin=0\ncold30=0\n"
+    "id=C\nkind=gen\nstatus=OFFNS\nnet=0\nlsl=0\nhsl=293000\nbase=0\nnonspin=0\ncold30=0\n";
+
+int main(void)
+{
+    int64_t record[ORDC_RECORD] = {0};
+    int64_t curves[ORDC_CURVES];
+    int64_t again[ORDC_CURVES];
+    int64_t answer[ORDC_ANSWER];
+    uint8_t text[ORDC_CURVE_TEXT];
+    size_t length = 0;
+
+    /* The errors -1 and 2 in each group: mean 0, spread 1. */
+    for (int group = 0; group < ORDC_GROUPS; group++) {
+        int month = 3 * (group / 6) + 1; /* January, April, July, October */
+        int hour = 4 * (group % 6);
+        expect_accepted("book", book_error(record, month, hour, -1));
+        expect_accepted("book", book_error(record, month, hour, 2));
+    }
+    expect_accepted("settle", ordc_settle(record, 900000, 2000000, curves));
+    printf("mean=%" PRId64 "\nspread=%" PRId64 "\n", curves[2], curves[3]);
+
+    expect_accepted("write", ordc_write_curves(curves, text, sizeof text, &length));
+    expect_accepted("read", ordc_read_curves(text, length, again));
+    if (memcmp(curves, again, sizeof curves) != 0) {
+        fprintf(stderr, "the curve text gives other curves\n");
+        return EXIT_FAILURE;
+    }
+
+    /* What a refusal looks like: no line at all, a buffer of no bytes, a record that no hours give. */
+    expect_refused("empty text", ordc_read_curves(NULL, 0, again), ORDC_LINE_ABSENT, 1);
+    expect_refused("short buffer", ordc_write_curves(curves, text, 0, &length), ORDC_BUFFER_SHORT, 0);
+    record[0] = -1;
+    expect_refused("impossible record", ordc_settle(record, 900000, 2000000, again), ORDC_IMPOSSIBLE_VALUES, 0);
+    if (memcmp(curves, again, sizeof curves) != 0) {
+        fprintf(stderr, "a refusal changed the curves\n");
+        return EXIT_FAILURE;
+    }
+
+    /* The listing: every group has mean 0 and spread 1000000 kW. */
+    for (int group = 0; group < ORDC_GROUPS; group++) {
+        curves[2 + 2 * group] = 0;
+        curves[3 + 2 * group] = 1000000;
+    }
+    expect_accepted("price", ordc_price(curves, (const uint8_t *)SNAPSHOT, sizeof SNAPSHOT - 1, answer));
+    printf("rs=%" PRId64 "\nrsns=%" PRId64 "\npis=%" PRId64 "\npins=%" PRId64 "\nonline=%" PRId64 "\noffline=%" PRId64 "\n",
+           answer[ORDC_RS], answer[ORDC_RSNS], answer[ORDC_PIS], answer[ORDC_PINS], answer[ORDC_ONLINE], answer[ORDC_OFFLINE]);
+    return EXIT_SUCCESS;
+}

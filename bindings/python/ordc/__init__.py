@@ -1,0 +1,34 @@
+"""Reserve curves and the two operating reserve prices, over the shared library libordc.so.
+
+Power is in whole kW, money in whole cents per MWh, shares of one in billionths.
+
+    >>> import ordc
+    >>> curves = ordc.read_curves(open("desk.curves", "rb").read())
+    >>> prices = ordc.price(curves, open("snapshot.txt", "rb").read())
+    >>> prices.online, prices.offline
+
+What an operation refuses raises :class:`Refused`, which gives the number, the line and a sentence.
+The shared library is taken from the environment variable ORDC_LIBRARY where it is set, then from
+target/staticlib of the repository that this package stands in, then from where the system looks.
+"""
+
+from ._library import GROUPS
+from ._refusals import EXPLANATIONS, Refused
+from ._values import CurveSet, Group, Pair, Prices, Record
+from ._operations import book, price, read_curves, settle, write_curves
+
+__all__ = [
+    "GROUPS",
+    "EXPLANATIONS",
+    "Refused",
+    "Record",
+    "Group",
+    "CurveSet",
+    "Pair",
+    "Prices",
+    "book",
+    "settle",
+    "read_curves",
+    "write_curves",
+    "price",
+]

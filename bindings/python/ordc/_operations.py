@@ -1,0 +1,44 @@
+"""The five operations. Each raises Refused where it turns its input back."""
+
+import ctypes
+
+from ._library import CURVE_TEXT, AnswerArray, CurvesArray, library
+from ._refusals import check
+from ._values import CurveSet, Prices, Record, _fitting
+
+
+def book(record: Record, text: bytes) -> Record:
+    """The record with one more hour booked. Refusals: 1, 2, 3 to 7, 9, 10, 11."""
+    array = record._array()
+    check(library.ordc_book(ctypes.byref(array), text, len(text)))
+    return Record._of(array)
+
+
+def settle(record: Record, voll: int, floor: int) -> CurveSet:
+    """The curves of a record, for VOLL in cents per MWh and X in kW. Refusals: 1, 7, 12, 13."""
+    _fitting((voll, floor))
+    array = CurvesArray()
+    check(library.ordc_settle(ctypes.byref(record._array()), voll, floor, ctypes.byref(array)))
+    return CurveSet._of(array)
+
+
+def read_curves(text: bytes) -> CurveSet:
+    """The curve set of a curve text. Refusals: 2, 3 to 7, 9."""
+    array = CurvesArray()
+    check(library.ordc_read_curves(text, len(text), ctypes.byref(array)))
+    return CurveSet._of(array)
+
+
+def write_curves(curves: CurveSet) -> bytes:
+    """The text of a curve set. Refusals: 1."""
+    buffer = ctypes.create_string_buffer(CURVE_TEXT)
+    written = ctypes.c_size_t()
+    check(library.ordc_write_curves(ctypes.byref(curves._array()), buffer, CURVE_TEXT, ctypes.byref(written)))
+    return buffer.raw[: written.value]
+
+
+def price(curves: CurveSet, text: bytes) -> Prices:
+    """The prices of a snapshot's text on a curve set. Refusals: 1, 2, 3 to 8, 9."""
+    answer = AnswerArray()
+    check(library.ordc_price(ctypes.byref(curves._array()), text, len(text), ctypes.byref(answer)))
+    return Prices(*answer)

@@ -1,0 +1,178 @@
+//! Reserve curves and the two operating reserve prices, over the static library `libordc.a`.
+//!
+//! Hours are booked on a [`Record`], a record settles into a [`CurveSet`], and a curve set prices a
+//! snapshot's text into [`Prices`]. Power is in whole kW, money in whole cents per MWh, shares of one
+//! in billionths. What an operation turns back is a [`Refusal`], and then nothing has changed.
+//!
+//! ```
+//! let curves = ordc::CurveSet {
+//!     voll: 900_000,
+//!     floor: 2_000_000,
+//!     pairs: [ordc::Pair { mean: 0, spread: 1_000_000 }; ordc::GROUPS],
+//! };
+//! let text = curves.to_text()?;
+//! assert_eq!(ordc::CurveSet::from_text(&text)?, curves);
+//! # Ok::<(), ordc::Refusal>(())
+//! ```
+
+mod raw;
+mod refusal;
+
+pub use refusal::Refusal;
+
+/// Four seasons of six four-hour blocks.
+pub const GROUPS: usize = 24;
+
+/// The reserve errors of one group.
+#[derive(Clone, Copy, Debug, Default, PartialEq, Eq)]
+pub struct Group {
+    /// How many errors, 0 to 1000.
+    pub count: i64,
+    /// Their sum, kW.
+    pub sum: i64,
+    /// The sum of their squares.
+    pub squares: i64,
+}
+
+/// The reserve errors booked so far, by group. The default is a fresh record, in which nothing is booked.
+#[derive(Clone, Copy, Debug, Default, PartialEq, Eq)]
+pub struct Record {
+    pub groups: [Group; GROUPS],
+}
+
+impl Record {
+    /// Books one hour's text, which changes only its group.
+    ///
+    /// # Errors
+    /// 1, 2, 3 to 7, 9, 10, 11; the record is then as it was.
+    pub fn book(&mut self, text: &[u8]) -> Result<(), Refusal> {
+        let mut values = self.values();
+        raw::book(&mut values, text)?;
+        for (group, value) in self.groups.iter_mut().zip(values.chunks_exact(3)) {
+            *group = Group {
+                count: value[0],
+                sum: value[1],
+                squares: value[2],
+            };
+        }
+        Ok(())
+    }
+
+    /// The curves of the record, for VOLL in cents per MWh and the minimum contingency level X in kW.
+    ///
+    /// # Errors
+    /// 1, 7, 12, 13.
+    pub fn settle(&self, voll: i64, floor: i64) -> Result<CurveSet, Refusal> {
+        raw::settle(&self.values(), voll, floor).map(|values| CurveSet::of(&values))
+    }
+
+    fn values(&self) -> [i64; raw::RECORD] {
+        let mut values = [0; raw::RECORD];
+        for (value, group) in values.chunks_exact_mut(3).zip(&self.groups) {
+            value.copy_from_slice(&[group.count, group.sum, group.squares]);
+        }
+        values
+    }
+}
+
+/// Mean and spread of a group's reserve errors, in kW.
+#[derive(Clone, Copy, Debug, PartialEq, Eq)]
+pub struct Pair {
+    pub mean: i64,
+    pub spread: i64,
+}
+
+/// VOLL in cents per MWh, X (the minimum contingency level) in kW, and the pair of each group.
+#[derive(Clone, Copy, Debug, PartialEq, Eq)]
+pub struct CurveSet {
+    pub voll: i64,
+    pub floor: i64,
+    pub pairs: [Pair; GROUPS],
+}
+
+impl CurveSet {
+    /// Reads a curve text.
+    ///
+    /// # Errors
+    /// 2, 3 to 7, 9.
+    pub fn from_text(text: &[u8]) -> Result<CurveSet, Refusal> {
+        raw::read_curves(text).map(|values| CurveSet::of(&values))
+    }
+
+    /// The curve text, of at most 700 bytes.
+    ///
+    /// # Errors
+    /// 1.
+    pub fn to_text(&self) -> Result<Vec<u8>, Refusal> {
+        let mut buffer = vec![0; raw::CURVE_TEXT];
+        let length = self.write_text(&mut buffer)?;
+        buffer.truncate(length);
+        Ok(buffer)
+    }
+
+    /// Writes the curve text to the front of a buffer and gives its length; bytes after it stay.
+    ///
+    /// # Errors
+    /// 1, 14; the buffer is then as it was.
+    pub fn write_text(&self, buffer: &mut [u8]) -> Result<usize, Refusal> {
+        raw::write_curves(&self.values(), buffer)
+    }
+
+    /// Prices a snapshot's text.
+    ///
+    /// # Errors
+    /// 1, 2, 3 to 8, 9.
+    pub fn price(&self, text: &[u8]) -> Result<Prices, Refusal> {
+        let [rs, rsns, pis, pins, online, offline] = raw::price(&self.values(), text)?;
+        Ok(Prices {
+            rs,
+            rsns,
+            pis,
+            pins,
+            online,
+            offline,
+        })
+    }
+
+    fn of(values: &[i64; raw::CURVES]) -> CurveSet {
+        let mut pairs = [Pair { mean: 0, spread: 0 }; GROUPS];
+        for (pair, value) in pairs.iter_mut().zip(values[2..].chunks_exact(2)) {
+            *pair = Pair {
+                mean: value[0],
+                spread: value[1],
+            };
+        }
+        CurveSet {
+            voll: values[0],
+            floor: values[1],
+            pairs,
+        }
+    }
+
+    fn values(&self) -> [i64; raw::CURVES] {
+        let mut values = [0; raw::CURVES];
+        values[0] = self.voll;
+        values[1] = self.floor;
+        for (value, pair) in values[2..].chunks_exact_mut(2).zip(&self.pairs) {
+            value.copy_from_slice(&[pair.mean, pair.spread]);
+        }
+        values
+    }
+}
+
+/// What a snapshot is worth.
+#[derive(Clone, Copy, Debug, PartialEq, Eq)]
+pub struct Prices {
+    /// On-line reserve, kW.
+    pub rs: i64,
+    /// On-line and off-line reserve, kW.
+    pub rsns: i64,
+    /// Probability of falling below X on `rs`, billionths.
+    pub pis: i64,
+    /// The same on `rsns`, billionths.
+    pub pins: i64,
+    /// On-line price adder, cents per MWh.
+    pub online: i64,
+    /// Off-line price adder, cents per MWh.
+    pub offline: i64,
+}

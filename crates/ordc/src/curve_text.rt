@@ -1,0 +1,25 @@
+// A curve text read into a lent curve set of 50 numbers.
+ghost use mathlib.Core.Path.{_≡_};
+ghost use Rattle.ordc.specs.CurveText.{CurvesRead};
+use crate::refusal::Refusal;
+use crate::refusal::refusal_in;
+use curve::curve_text::read_curves;
+use curve::curve_text::values_of;
+
+pub mod write;
+
+// A curve text read into a lent curve set, which a refusal leaves as it was.
+#[no_mangle]
+pub extern "C" fn ordc_read_curves(text: &[u8], curves: &mut [i64; 50]) -> Refusal
+    ensures { λ r. ⌜ CurvesRead (now (text .entry)) (now (curves .entry)) (now (curves .exit)) r ⌝ }
+{
+    let read = read_curves(text);
+    let answer = read.answer;
+    let found = refusal_in(answer);
+    if found.number != 0 {
+        return found;
+    }
+    let set = read.set;
+    *curves = values_of(set);
+    found
+}

@@ -1,0 +1,25 @@
+// How every function of the library answers.
+ghost use mathlib.Core.Path.{_≡_};
+ghost use Rattle.ordc.specs.Refusal.{refusalIn};
+use curve::answer::Answer;
+
+// A refusal's number and line; both 0 where nothing was refused.
+#[repr(C)]
+pub struct Refusal {
+    pub number: u64,
+    pub line: u64,
+}
+
+// The refusal in an answer.
+pub(crate) fn refusal_in(answer: Answer) -> Refusal
+    ensures { λ r. ⌜ r ≡ refusalIn answer ⌝ }
+{
+    match answer {
+        Answer::Accepted => Refusal { number: 0, line: 0 },
+        Answer::Refused(found) => {
+            let number = found.number;
+            let line = found.line as u64;
+            Refusal { number, line }
+        }
+    }
+}

@@ -1,0 +1,3 @@
+-- Laws on reading: a block by a schema, and what is read is in range.
+pub mod Readings
+pub mod Lines

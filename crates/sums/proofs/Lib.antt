@@ -1,0 +1,2 @@
+-- Laws on parts and sums: their bounds.
+pub mod Parts

@@ -1,0 +1,98 @@
+// What each resource adds to the sums before the factor.
+mod counted;
+
+ghost use mathlib.Core.Path.{_≡_};
+ghost use Prim.Native.Nat.{_≤_};
+ghost use lib.IntN.{natAbs, _-ℤ_};
+ghost use Rattle.sums.specs.Sums.{partOf};
+use crate::counted::counted_offline;
+use crate::counted::counted_online;
+use crate::counted::wide;
+use adder::sums::Sums;
+use resource::Controllable;
+use resource::Generator;
+use resource::Load;
+use resource::Resource;
+
+// A number less two others.
+fn less(x: i32, y: i32, z: i32) -> i64
+    ensures { λ r. ⌜ (r ≡ x -ℤ y -ℤ z) × (natAbs r ≤ 6442450944) ⌝ }
+{
+    wide(x) - wide(y) - wide(z)
+}
+
+fn generator_part(g: Generator) -> Sums
+    ensures { λ r. ⌜ r ≡ partOf (Resource.Generator g) ⌝ }
+{
+    if counted_online(g) {
+        return Sums {
+            generation: less(g.hsl, g.base, g.nonspin),
+            controllable: 0,
+            offline: wide(g.nonspin),
+            validated: 0,
+            responsive: 0,
+        };
+    }
+    let kind = g.kind;
+    let status = g.status;
+    if counted_offline(kind, status, g.cold30) {
+        return Sums {
+            generation: 0,
+            controllable: 0,
+            offline: wide(g.hsl),
+            validated: 0,
+            responsive: 0,
+        };
+    }
+    Sums {
+        generation: 0,
+        controllable: 0,
+        offline: 0,
+        validated: 0,
+        responsive: 0,
+    }
+}
+
+fn controllable_part(c: Controllable) -> Sums
+    ensures { λ r. ⌜ r ≡ partOf (Resource.Controllable c) ⌝ }
+{
+    Sums {
+        generation: 0,
+        controllable: less(c.base, c.lpc, c.nonspin) + wide(c.regup),
+        offline: wide(c.nonspin),
+        validated: 0,
+        responsive: 0,
+    }
+}
+
+fn load_part(l: Load) -> Sums
+    ensures { λ r. ⌜ r ≡ partOf (Resource.Load l) ⌝ }
+{
+    if 0 < l.rrsok {
+        return Sums {
+            generation: 0,
+            controllable: 0,
+            offline: 0,
+            validated: less(l.net, l.lpc, 0),
+            responsive: wide(l.rrs),
+        };
+    }
+    Sums {
+        generation: 0,
+        controllable: 0,
+        offline: 0,
+        validated: 0,
+        responsive: wide(l.rrs),
+    }
+}
+
+// What a resource adds to the sums.
+pub fn part_of(resource: Resource) -> Sums
+    ensures { λ r. ⌜ r ≡ partOf resource ⌝ }
+{
+    match resource {
+        Resource::Generator(g) => generator_part(g),
+        Resource::Controllable(c) => controllable_part(c),
+        Resource::Load(l) => load_part(l),
+    }
+}
