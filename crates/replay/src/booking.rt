@@ -62,7 +62,7 @@ fn show_booking(before: Record, text: &[u8]) {
     show(out, end);
 }
 
-pub fn book_case(cases: &[u8], at: usize, text: &mut [u8]) -> usize {
+pub(crate) fn book_case(cases: &[u8], at: usize, text: &mut [u8]) -> usize {
     let stored = record_at(cases, at);
     let expanded = text_at(cases, stored.next, text);
     let before = stored.history;
@@ -81,14 +81,14 @@ fn put_answer(out: &mut [u8], curves: Curves) -> usize {
     put_refusal(out, refusal)
 }
 
-pub fn show_curves(curves: Curves) {
+pub(crate) fn show_curves(curves: Curves) {
     let mut line = line_space();
     let out: &mut [u8] = &mut line;
     let end = put_answer(out, curves);
     show(out, end);
 }
 
-pub fn settle_case(cases: &[u8], at: usize) -> usize {
+pub(crate) fn settle_case(cases: &[u8], at: usize) -> usize {
     let stored = record_at(cases, at);
     let voll = number_at(cases, stored.next);
     let floor = number_at(cases, voll.next);

@@ -15,7 +15,7 @@ use curve::curves::CurveSet;
 use curve::curves::WrittenCurves;
 use text::line::part;
 
-pub fn read_case(cases: &[u8], at: usize, text: &mut [u8]) -> usize {
+pub(crate) fn read_case(cases: &[u8], at: usize, text: &mut [u8]) -> usize {
     let expanded = text_at(cases, at, text);
     show_curves(read_curves(part(text, 0, expanded.end)));
     expanded.next
@@ -79,7 +79,7 @@ fn buffer_space() -> [u8; 1024] {
     [0; 1024]
 }
 
-pub fn write_case(cases: &[u8], at: usize) -> usize {
+pub(crate) fn write_case(cases: &[u8], at: usize) -> usize {
     let stored = curves_at(cases, at);
     let length = count_at(cases, stored.next);
     if 1024 < length.value {

@@ -88,7 +88,7 @@ fn piece_at(cases: &[u8], at: usize, text: &mut [u8], end: usize) -> Expanded {
 }
 
 // The text at a position of the file.
-pub fn text_at(cases: &[u8], at: usize, text: &mut [u8]) -> Expanded {
+pub(crate) fn text_at(cases: &[u8], at: usize, text: &mut [u8]) -> Expanded {
     let pieces = count_at(cases, at);
     let mut left = pieces.value;
     let mut next = pieces.next;

@@ -71,7 +71,7 @@ fn next_group(cases: &[u8], repeat: GroupRepeat) -> GroupRepeat {
     }
 }
 
-pub fn record_at(cases: &[u8], at: usize) -> StoredRecord {
+pub(crate) fn record_at(cases: &[u8], at: usize) -> StoredRecord {
     let zero = Group {
         count: 0,
         sum: 0,
@@ -127,7 +127,7 @@ fn next_pair(cases: &[u8], repeat: PairRepeat) -> PairRepeat {
     }
 }
 
-pub fn curves_at(cases: &[u8], at: usize) -> StoredCurves {
+pub(crate) fn curves_at(cases: &[u8], at: usize) -> StoredCurves {
     let voll = number_at(cases, at);
     let floor = number_at(cases, voll.next);
     let zero = Pair { mean: 0, spread: 0 };

@@ -8,12 +8,12 @@ use text::line::part;
 use text::refusal::Refusal;
 
 // Room for the longest line, 72 numbers.
-pub fn line_space() -> [u8; 2048] {
+pub(crate) fn line_space() -> [u8; 2048] {
     [0; 2048]
 }
 
 // A byte, and where the next one goes.
-pub fn put_byte(out: &mut [u8], at: usize, byte: u8) -> usize {
+pub(crate) fn put_byte(out: &mut [u8], at: usize, byte: u8) -> usize {
     if out.len() <= at {
         return at;
     }
@@ -21,7 +21,7 @@ pub fn put_byte(out: &mut [u8], at: usize, byte: u8) -> usize {
     at + 1
 }
 
-pub fn put_bytes(out: &mut [u8], at: usize, bytes: &[u8]) -> usize {
+pub(crate) fn put_bytes(out: &mut [u8], at: usize, bytes: &[u8]) -> usize {
     let mut end = at;
     let mut i: usize = 0;
     while i < bytes.len() {
@@ -38,13 +38,13 @@ fn put_digits(out: &mut [u8], at: usize, n: u64) -> usize {
 }
 
 // A space and a number without sign.
-pub fn put_count(out: &mut [u8], at: usize, n: u64) -> usize {
+pub(crate) fn put_count(out: &mut [u8], at: usize, n: u64) -> usize {
     let end = put_byte(out, at, 32);
     put_digits(out, end, n)
 }
 
 // A space and a number.
-pub fn put_number(out: &mut [u8], at: usize, z: i64) -> usize {
+pub(crate) fn put_number(out: &mut [u8], at: usize, z: i64) -> usize {
     if z < 0 {
         let end = put_bytes(out, at, b" -");
         return put_digits(out, end, magnitude(z));
@@ -53,7 +53,7 @@ pub fn put_number(out: &mut [u8], at: usize, z: i64) -> usize {
 }
 
 // The refusal's number and its line.
-pub fn put_refusal(out: &mut [u8], refusal: Refusal) -> usize {
+pub(crate) fn put_refusal(out: &mut [u8], refusal: Refusal) -> usize {
     let number = refusal.number;
     let line = refusal.line;
     let key = put_bytes(out, 0, b"refused");
@@ -69,7 +69,7 @@ fn put_group(out: &mut [u8], at: usize, group: Group) -> usize {
 }
 
 // Count, sum and squares of each group.
-pub fn put_record(out: &mut [u8], at: usize, history: Record) -> usize {
+pub(crate) fn put_record(out: &mut [u8], at: usize, history: Record) -> usize {
     let mut end = at;
     let mut i: usize = 0;
     while i < 24 {
@@ -86,7 +86,7 @@ fn put_two(out: &mut [u8], at: usize, first: i64, second: i64) -> usize {
 }
 
 // VOLL, X, and the mean and the spread of each group.
-pub fn put_curves(out: &mut [u8], at: usize, curves: CurveSet) -> usize {
+pub(crate) fn put_curves(out: &mut [u8], at: usize, curves: CurveSet) -> usize {
     let mut end = put_two(out, at, curves.voll, curves.floor);
     let mut i: usize = 0;
     while i < 24 {
@@ -98,7 +98,7 @@ pub fn put_curves(out: &mut [u8], at: usize, curves: CurveSet) -> usize {
 }
 
 // The line ended and written.
-pub fn show(out: &mut [u8], at: usize) {
+pub(crate) fn show(out: &mut [u8], at: usize) {
     let end = put_byte(out, at, 10);
     io::write_all(STDOUT_FILENO, part(out, 0, end));
 }

@@ -12,7 +12,7 @@ pub struct Number {
     pub next: usize,
 }
 
-pub fn wide(byte: u8) -> u64 {
+pub(crate) fn wide(byte: u8) -> u64 {
     byte as u64
 }
 
@@ -32,7 +32,7 @@ fn with_digit(value: u64, byte: u8) -> u64 {
 }
 
 // The digits at a position, with the byte that ends them.
-pub fn count_at(cases: &[u8], at: usize) -> Count {
+pub(crate) fn count_at(cases: &[u8], at: usize) -> Count {
     let mut value: u64 = 0;
     let mut i = at;
     while i < cases.len() {
@@ -62,7 +62,7 @@ fn negated(value: u64) -> i64 {
 }
 
 // The number at a position, with `-` in front where it is below zero.
-pub fn number_at(cases: &[u8], at: usize) -> Number {
+pub(crate) fn number_at(cases: &[u8], at: usize) -> Number {
     let count = count_at(cases, at);
     let next = count.next;
     if at < cases.len() {

@@ -39,7 +39,7 @@ fn show_pricing(priced: Pricing) {
     show(out, end);
 }
 
-pub fn price_case(cases: &[u8], at: usize, text: &mut [u8]) -> usize {
+pub(crate) fn price_case(cases: &[u8], at: usize, text: &mut [u8]) -> usize {
     let stored = curves_at(cases, at);
     let expanded = text_at(cases, stored.next, text);
     let set = stored.set;
