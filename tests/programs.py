@@ -7,7 +7,6 @@ same bytes. The last line counts the inputs; the exit status is 1 where one diff
 """
 import os
 import random
-import resource
 import subprocess
 import sys
 from concurrent.futures import ThreadPoolExecutor
@@ -18,6 +17,18 @@ LIMIT = 65536
 def run(command, data):
     done = subprocess.run(command, input=data, stdout=subprocess.PIPE, check=True)
     return done.stdout
+
+
+def peak(command, data):
+    """Peak memory in KiB of the program itself, read while it waits for more input: a wrapper's own memory would hide it."""
+    process = subprocess.Popen([command], stdin=subprocess.PIPE, stdout=subprocess.DEVNULL)
+    process.stdin.write(data)
+    process.stdin.flush()
+    with open(f"/proc/{process.pid}/status") as status:
+        found = [int(line.split()[1]) for line in status if line.startswith("VmHWM")]
+    process.stdin.close()
+    process.wait()
+    return found[0]
 
 
 def hour(month, clock, runs, rng):
@@ -127,10 +138,7 @@ def main():
     # A year and more of hours in constant memory: the peak may not grow with the input.
     curves = os.path.join(directory, "curves")
     small, large = history(2, 12, rng), history(1000, 12, rng)
-    peaks = []
-    for data in (small, large):
-        script = "import resource, subprocess, sys; subprocess.run([sys.argv[1]], stdin=sys.stdin, stdout=subprocess.DEVNULL); print(resource.getrusage(resource.RUSAGE_CHILDREN).ru_maxrss)"
-        peaks.append(int(run([sys.executable, "-c", script, curves], data)))
+    peaks = [peak(curves, data) for data in (small, large)]
     if run([curves], large) != run([reference, "curves"], large):
         wrong += 1
         print("curves: 24000 hours: the outputs differ")
