@@ -24,8 +24,42 @@ pub fn curve_text() -> Vec<u8> {
     text.into_bytes()
 }
 
+/// How the ids of a snapshot's resources look.
+#[derive(Clone, Copy)]
+pub enum Ids {
+    /// `UNIT_0_A`, `UNIT_1_A` and so on.
+    Numbered,
+    /// Sixteen bytes that look random.
+    Random,
+    /// Sixteen bytes, as many of them as can be the same in all ids: two bytes tell 1369 ids apart, three 50653.
+    Prefixed,
+}
+
+const ID_BYTES: &[u8; 37] = b"ABCDEFGHIJKLMNOPQRSTUVWXYZ0123456789_";
+
+/// The last bytes of an id with a long prefix: its index in the base of the bytes that an id can have.
+fn suffix(index: u64, length: u32) -> String {
+    let base = ID_BYTES.len() as u64;
+    (0..length)
+        .rev()
+        .map(|place| char::from(ID_BYTES[(index / base.pow(place) % base) as usize]))
+        .collect()
+}
+
+/// The id of a resource by its index.
+fn id(ids: Ids, index: u64, count: u64, numbers: &mut Sequence) -> String {
+    match ids {
+        Ids::Numbered => format!("UNIT_{index}_A"),
+        Ids::Random => (0..16)
+            .map(|_| char::from(ID_BYTES[numbers.below(37) as usize]))
+            .collect(),
+        Ids::Prefixed if count <= 37 * 37 => format!("RESOURCE_NODE_{}", suffix(index, 2)),
+        Ids::Prefixed => format!("RESOURCE_NODE{}", suffix(index, 3)),
+    }
+}
+
 /// A snapshot of so many resources: of ten, seven generators of every kind, one clr and two nclr.
-pub fn snapshot(count: u64) -> Vec<u8> {
+pub fn snapshot(count: u64, ids: Ids) -> Vec<u8> {
     let kinds = ["gen", "wind", "irr", "nuke"];
     let statuses = [
         "ON", "ON", "ON", "OFF", "OFFNS", "ONTEST", "STARTUP", "SHUTDOWN", "OUT",
@@ -33,7 +67,8 @@ pub fn snapshot(count: u64) -> Vec<u8> {
     let mut numbers = Sequence(count);
     let mut text = format!("month=7\nhour=14\nlambda=2500\nfactor=9500\nprc=3000000\neea1=2300000\nshort=0\ncount={count}\n");
     for index in 0..count {
-        write!(text, "id=UNIT_{index}_A\n").expect("a String takes every byte");
+        let id = id(ids, index, count, &mut numbers);
+        write!(text, "id={id}\n").expect("a String takes every byte");
         let mut power = || numbers.below(900);
         match index % 10 {
             7 => write!(

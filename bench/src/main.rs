@@ -3,6 +3,7 @@
 
 mod inputs;
 
+use inputs::Ids;
 use std::hint::black_box;
 use std::process::Command;
 
@@ -85,7 +86,7 @@ fn row<A, B>(
         format!("{:>10}", "-")
     };
     println!(
-        "{phase:<24}{:>14.2}{:>14.2}{:>8.2}{:>12.0}{:>12.0}{scanned}",
+        "{phase:<29}{:>14.2}{:>14.2}{:>8.2}{:>12.0}{:>12.0}{scanned}",
         first * 1e6,
         second * 1e6,
         first / second,
@@ -127,11 +128,18 @@ fn report() {
     let curves = ordc::CurveSet::from_text(&text).expect("the curves are accepted");
     let plain = reference::read_curves(&text).expect("the curves are accepted");
     println!(
-        "{:<24}{:>14}{:>14}{:>8}{:>12}{:>12}{:>10}",
+        "{:<29}{:>14}{:>14}{:>8}{:>12}{:>12}{:>10}",
         "phase", "library us", "reference us", "ratio", "lib MB/s", "ref MB/s", "scan MB/s"
     );
-    for count in [1_500, 4_096] {
-        let snapshot = inputs::snapshot(count);
+    for (count, ids, name) in [
+        (1_500, Ids::Numbered, "resources"),
+        (4_096, Ids::Numbered, "resources"),
+        (1_024, Ids::Random, "ids at random"),
+        (4_096, Ids::Random, "ids at random"),
+        (1_024, Ids::Prefixed, "ids of one prefix"),
+        (4_096, Ids::Prefixed, "ids of one prefix"),
+    ] {
+        let snapshot = inputs::snapshot(count, ids);
         let ours = curves.price(&snapshot).expect("the snapshot is accepted");
         let theirs =
             reference::price_snapshot(&plain, &snapshot).expect("the snapshot is accepted");
@@ -141,7 +149,7 @@ fn report() {
         );
         let time = least(MIDDLE, || scan(&snapshot));
         row(
-            &format!("price {count} resources"),
+            &format!("price {count} {name}"),
             snapshot.len(),
             MIDDLE,
             || curves.price(&snapshot),
@@ -207,7 +215,7 @@ fn peak() -> String {
 
 /// Prices the large snapshot by one of the two alone and prints the peak.
 fn memory(which: &str) {
-    let (text, snapshot) = (inputs::curve_text(), inputs::snapshot(4_096));
+    let (text, snapshot) = (inputs::curve_text(), inputs::snapshot(4_096, Ids::Numbered));
     match which {
         "library" => drop(black_box(
             ordc::CurveSet::from_text(&text).and_then(|curves| curves.price(&snapshot)),
@@ -238,6 +246,6 @@ fn main() {
             .args(["--memory", which])
             .output()
             .expect("the program runs");
-        print!("{which:<24}{}", String::from_utf8_lossy(&output.stdout));
+        print!("{which:<29}{}", String::from_utf8_lossy(&output.stdout));
     }
 }

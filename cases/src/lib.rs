@@ -6,7 +6,6 @@ mod book;
 mod curve_text;
 mod format;
 mod price;
-mod random;
 mod settle;
 mod texts;
 

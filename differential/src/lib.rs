@@ -12,7 +12,6 @@ mod generate;
 mod input;
 pub mod order;
 mod plain;
-mod random;
 mod shrink;
 mod texts;
 

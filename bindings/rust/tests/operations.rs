@@ -82,6 +82,7 @@ fn every_refusal() {
     refused(CurveSet::from_text(&[b'x'; 4097]), 2, 0);
     refused(Record::default().book(&[b'x'; 65537]), 2, 0);
     refused(curves().price(&vec![b'x'; 1_048_577]), 2, 0);
+    refused(curves().price(&vec![b'x'; 1_048_576]), 3, 1);
     refused(CurveSet::from_text(b""), 3, 1);
     refused(CurveSet::from_text(b"voll=1\nmu=1\n"), 4, 2);
     let damaged = |from, to| LISTING.replacen(from, to, 1);
@@ -131,4 +132,22 @@ fn threads_get_the_same_answers() {
     for thread in threads {
         assert_eq!(thread.join().unwrap(), Ok(PRICES));
     }
+}
+
+/// As many resources as a snapshot can have, each of as many bytes as it can have; only the last one is counted.
+#[test]
+fn the_longest_snapshot_is_priced() {
+    let mut text = String::from(
+        "month=12\nhour=23\nlambda=-2000000\nfactor=10000\nprc=200000000\neea1=200000000\nshort=200000000\ncount=4096\n",
+    );
+    for index in 0..4096 {
+        let status = if index == 4095 { "ON" } else { "SHUTDOWN" };
+        text.push_str(&format!(
+            "id=RESOURCE_{index:07}\nkind=wind\nstatus={status}\nnet=2000000\nlsl=2000000\nhsl=2000000\nbase=1000000\nnonspin=2000000\ncold30=1\n"
+        ));
+    }
+    assert!(text.len() < 1_048_576);
+    let prices = curves().price(text.as_bytes()).expect("it is accepted");
+    // hsl - base - nonspin of the one unit, less the under-generation
+    assert_eq!(prices.rs, 2_000_000 - 1_000_000 - 2_000_000 - 200_000_000);
 }

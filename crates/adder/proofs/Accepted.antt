@@ -2,8 +2,8 @@
 use mathlib.Core.Path.{_≡_}
 use mathlib.Core.Bool.{true}
 use lib.IntN.{pos, negℤ}
-use Rattle.curve.specs.Curves.{within, curvesInRange}
-use Rattle.curve.specs.declared.curves.CurveSet.{CurveSet}
+use Rattle.curve_set.specs.Curves.{within, curvesInRange}
+use Rattle.curve_set.specs.declared.CurveSet.{CurveSet}
 use Rattle.adder.specs.Sums.{sumsPossible, headerFault}
 use Rattle.adder.specs.Price.{pricesOf, sumsPriced}
 use Rattle.adder.specs.declared.sums.Sums.{Sums}

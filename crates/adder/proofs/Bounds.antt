@@ -11,9 +11,9 @@ use Rattle.integer.specs.Order.{minℤ, maxℤ}
 use Rattle.integer.proofs.Order.{leZ-true, ≤ℤ-trans}
 use Rattle.integer.proofs.Bounds.{abs-bound, abs-add, abs-sub, abs-mul}
 use Rattle.text.specs.Choice.{pick}
-use Rattle.curve.specs.Curves.{within, pairInRange, pairsInRange, curvesInRange}
-use Rattle.curve.specs.declared.curves.Pair.{Pair}
-use Rattle.curve.specs.declared.curves.CurveSet.{CurveSet}
+use Rattle.curve_set.specs.Curves.{within, pairInRange, pairsInRange, curvesInRange}
+use Rattle.curve_set.specs.declared.Pair.{Pair}
+use Rattle.curve_set.specs.declared.CurveSet.{CurveSet}
 use Rattle.adder.specs.Sums.{sumsPossible, headerFault}
 use Rattle.adder.specs.Reserve.{twiceLoads, twiceOnline, twiceAll}
 use Rattle.adder.specs.Price.{valueOfReserve}

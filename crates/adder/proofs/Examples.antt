@@ -8,10 +8,10 @@ use Rattle.integer.specs.Floor.{floorDiv}
 use Rattle.integer.specs.Order.{minℤ, maxℤ}
 use Rattle.normal.specs.Knot.{knot}
 use Rattle.normal.specs.Normal.{interpolated, upper, normal}
-use Rattle.curve.specs.Season.{groupOf, seasonOf, blockOf}
-use Rattle.curve.specs.Curves.{curvesInRange, pairsInRange}
+use Rattle.season.specs.Season.{groupOf, seasonOf, blockOf}
+use Rattle.curve_set.specs.Curves.{curvesInRange, pairsInRange}
 use Rattle.probability.specs.Probability.{onlineProbability, offlineProbability}
-use Rattle.curve.specs.declared.curves.CurveSet.{CurveSet}
+use Rattle.curve_set.specs.declared.CurveSet.{CurveSet}
 use Rattle.adder.specs.Sums.{sumsPossible, headerFault}
 use Rattle.adder.specs.Reserve.{twiceLoads, twiceOnline, twiceAll, discounted, onlineReserve, totalReserve}
 use Rattle.adder.specs.Price.{valueOfReserve, rounded, shortageOnline, shortageOffline, pricesOf, sumsPriced}

@@ -12,7 +12,7 @@ use Rattle.integer.proofs.Order.{leZ-true, leZ-false, ≤ℤ-trans, +ℤ-mono, 
 use Rattle.integer.proofs.Difference.{view, toℕ}
 use Rattle.text.specs.Choice.{pick}
 use Rattle.probability.proofs.ProbabilityOrder.{online-le, offline-le, probabilities-never-rise}
-use Rattle.curve.specs.declared.curves.CurveSet.{CurveSet}
+use Rattle.curve_set.specs.declared.CurveSet.{CurveSet}
 use Rattle.adder.specs.Reserve.{twiceLoads, twiceOnline, twiceAll, discounted, onlineReserve, totalReserve}
 use Rattle.adder.specs.Price.{pairFor, valueOfReserve, rounded, shortageOnline, shortageOffline, pricesOf}
 use Rattle.adder.specs.Promises.{SumsNotLower, HeaderRaised, CurvesLowered, MoreReserveNeverRaisesPrices, OfflineOnlineValue}

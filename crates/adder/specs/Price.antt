@@ -6,11 +6,11 @@ use lib.IntN.{ℤ, pos, natAbs, _-ℤ_}
 use lib.ListN.{getD}
 use Rattle.integer.specs.Order.{maxℤ}
 use Rattle.text.specs.Choice.{pick}
-use Rattle.curve.specs.Season.{groupOf}
-use Rattle.curve.specs.Curves.{curvesInRange}
+use Rattle.season.specs.Season.{groupOf}
+use Rattle.curve_set.specs.Curves.{curvesInRange}
 use Rattle.probability.specs.Probability.{onlineProbability, offlineProbability}
-use Rattle.curve.specs.declared.curves.Pair.{Pair}
-use Rattle.curve.specs.declared.curves.CurveSet.{CurveSet}
+use Rattle.curve_set.specs.declared.Pair.{Pair}
+use Rattle.curve_set.specs.declared.CurveSet.{CurveSet}
 use Rattle.adder.specs.Sums.{sumsPossible, headerFault}
 use Rattle.adder.specs.Reserve.{onlineReserve, totalReserve}
 use Rattle.adder.specs.declared.sums.Sums.{Sums}

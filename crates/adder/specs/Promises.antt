@@ -5,7 +5,7 @@ use mathlib.Core.Path.{_≡_}
 use mathlib.Core.Bool.{true}
 use lib.IntN.{ℤ, pos}
 use lib.Signed.{_≤ℤ_}
-use Rattle.curve.specs.declared.curves.CurveSet.{CurveSet}
+use Rattle.curve_set.specs.declared.CurveSet.{CurveSet}
 use Rattle.adder.specs.Price.{pairFor, pricesOf, valueOfReserve}
 use Rattle.adder.specs.declared.sums.Sums.{Sums}
 use Rattle.adder.specs.declared.sums.Header.{Header}

@@ -5,8 +5,9 @@ use mathlib.Core.List.{List, [], _∷_}
 use lib.IntN.{ℤ, pos, negℤ, _+ℤ_}
 use Rattle.text.specs.Choice.{pick}
 use Rattle.text.specs.Bytes.{bytes}
-use Rattle.value.specs.Field.{Field, numberField}
-use Rattle.curve.specs.Curves.{within}
+use Rattle.line.specs.Field.{Field}
+use Rattle.number.specs.Field.{numberField}
+use Rattle.curve_set.specs.Curves.{within}
 use Rattle.adder.specs.declared.sums.Sums.{Sums}
 use Rattle.adder.specs.declared.sums.Header.{Header}
 

@@ -3,7 +3,7 @@ ghost use Prim.Native.Nat.{_≤_};
 ghost use mathlib.Core.Path.{_≡_};
 ghost use mathlib.Core.Bool.{true};
 ghost use lib.IntN.{natAbs};
-ghost use Rattle.curve.specs.Curves.{curvesInRange};
+ghost use Rattle.curve_set.specs.Curves.{curvesInRange};
 ghost use Rattle.adder.specs.Sums.{sumsPossible, headerFault};
 ghost use Rattle.adder.specs.Price.{pairFor, valueOfReserve, rounded, pricesOf, sumsPriced};
 use crate::reserve::higher;
@@ -13,13 +13,13 @@ use crate::sums::Header;
 use crate::sums::Sums;
 use crate::sums::header_fault;
 use crate::sums::sums_possible;
-use curve::curves::CurveSet;
-use curve::curves::Pair;
-use curve::curves::curves_in_range;
-use curve::season::group_of;
+use curve_set::CurveSet;
+use curve_set::Pair;
+use curve_set::curves_in_range;
 use integer::magnitude;
 use probability::offline_probability;
 use probability::online_probability;
+use season::group_of;
 use text::refusal::Refusal;
 
 // Both reserves in kW, both probabilities in billionths, both prices in cents per MWh.

@@ -1,7 +1,7 @@
 // The sums of a snapshot before cap and factor, and its header numbers.
 ghost use mathlib.Core.Path.{_≡_};
 ghost use Rattle.text.specs.Choice.{pick};
-ghost use Rattle.curve.specs.Curves.{within};
+ghost use Rattle.curve_set.specs.Curves.{within};
 ghost use Rattle.adder.specs.Sums.{sumsPossible, headerFault};
 
 // What the resources add up to, in kW: each sum is the sum of the resources' parts, so the load cap, which holds for the total, is not yet applied.

@@ -9,12 +9,13 @@ use lib.IntN.{ℤ}
 use lib.ListN.{length, take, drop, getD, set, drop-of-length-le, length-append, length-set}
 use lib.Seq.{take-nil, drop-cons, set-at}
 use Rattle.text.specs.Piece.{pieceLength}
-use Rattle.value.specs.Field.{Field, fieldAt, numberField, numberAnswer, numberFault}
+use Rattle.line.specs.Field.{Field, fieldAt}
+use Rattle.number.specs.Field.{numberField, numberAnswer, numberFault}
 use Rattle.block.specs.Block.{Reading, andThen, readFields, numberFields, keysOf, placedFields, BlockRead}
 use Rattle.text.specs.declared.refusal.Fault.{Fault}
-use Rattle.value.specs.declared.number.NumberLine.{NumberLine}
-use Rattle.value.specs.declared.number.NumberLine.the-variants as number-line
-use Rattle.block.specs.declared.read.Block.the-variants as block
+use Rattle.number.specs.declared.NumberLine.{NumberLine}
+use Rattle.number.specs.declared.NumberLine.the-variants as number-line
+use Rattle.block.specs.declared.Block.the-variants as block
 use Rattle.text.proofs.Pieces.{piece-none, piece-next, piece-fits}
 
 -- the lines of a schema from a key on, i lines standing before

@@ -1,10 +1,4 @@
--- Laws that the proofs of several functions share, and that crates above cite; the proofs of the named statements of specs/Promises.antt.
+-- Laws that the proofs of several functions share, and that crates above cite.
 pub mod Blocks
 pub mod Shifted
 pub mod Readings
-pub mod WrittenDigits
-pub mod RoundTrip
-pub mod Values
-pub mod Laid
-pub mod Writing
-pub mod Refused

@@ -11,14 +11,14 @@ use lib.ListN.{length, take, drop, length-drop}
 use lib.Seq.{drop-drop}
 use borrow.Author.Tests.{ltb-true}
 use Rattle.text.specs.Choice.{pick}
-use Rattle.text.specs.Line.{lineLength, begins, part, fault, lineIn, lineAt, faultOf}
-use Rattle.value.specs.Field.{Judged, good, bad, Field, Answer, got, refused, judged, valueIn, fieldAt}
+use Rattle.line.specs.Line.{lineLength, begins, part, fault, lineIn, lineAt, faultOf}
+use Rattle.line.specs.Field.{Judged, good, bad, Field, Answer, got, refused, judged, valueIn, fieldAt}
 use Rattle.block.specs.Block.{Reading, andThen, readFields, blockFault}
 use Rattle.text.specs.declared.refusal.Fault.{Fault}
-use Rattle.text.specs.declared.line.Line.{Line}
-use Rattle.text.specs.declared.line.Line.the-variants as line
-use Rattle.block.specs.declared.read.Block.{Block}
-use Rattle.block.specs.declared.read.Block.the-variants as block
+use Rattle.line.specs.declared.Line.{Line}
+use Rattle.line.specs.declared.Line.the-variants as line
+use Rattle.block.specs.declared.Block.{Block}
+use Rattle.block.specs.declared.Block.the-variants as block
 
 -- ---- positions moved
 

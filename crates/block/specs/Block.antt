@@ -5,11 +5,12 @@ use mathlib.Core.List.{List, [], _∷_, _++_}
 use lib.IntN.{ℤ, pos}
 use lib.ListN.{length, getD, take, drop}
 use Rattle.text.specs.Piece.{piecesOf}
-use Rattle.text.specs.Line.{fault}
+use Rattle.line.specs.Line.{fault}
 use Rattle.text.specs.declared.refusal.Fault.{Fault}
-use Rattle.value.specs.Field.{Field, Answer, got, refused, fieldAt, numberField}
-use Rattle.block.specs.declared.read.Block.{Block}
-use Rattle.block.specs.declared.read.Block.the-variants as block
+use Rattle.line.specs.Field.{Field, Answer, got, refused, fieldAt}
+use Rattle.number.specs.Field.{numberField}
+use Rattle.block.specs.declared.Block.{Block}
+use Rattle.block.specs.declared.Block.the-variants as block
 
 -- the values read, and how reading ended: after the last line, or at the first refused one
 pub record Reading (A : Type 0) : Type 0 where

@@ -1,5 +1,2 @@
--- Blocks of lines by a schema, their texts, and the round trip.
+-- Blocks of lines by a schema.
 pub mod Block
-pub mod Write
-pub mod Promises
-pub mod Output

@@ -15,24 +15,26 @@ use Rattle.integer.proofs.Order.{leZ-true}
 use Rattle.integer.proofs.Bounds.{abs-bound}
 use Rattle.text.specs.Choice.{pick}
 use Rattle.text.specs.Bytes.{bytes}
-use Rattle.text.specs.Line.{lineLength}
-use Rattle.text.specs.declared.line.End.the-variants as end
+use Rattle.line.specs.Line.{lineLength}
+use Rattle.line.specs.declared.End.the-variants as end
 use Rattle.text.proofs.Choices.{and-left, and-right}
-use Rattle.value.specs.Number.{digitsOf, writtenNumber}
-use Rattle.value.specs.Field.{numberField}
+use Rattle.number.specs.Number.{digitsOf, writtenNumber}
+use Rattle.number.specs.Field.{numberField}
 use Rattle.block.specs.Block.{readFields, writeFields, repeated}
-use Rattle.block.specs.Promises.{AllSound, none-sound, one-sound, AllFitting, none-fitting, one-fitting, Fitting}
-use Rattle.block.specs.declared.read.Block.{Block}
-use Rattle.block.specs.declared.read.Block.the-variants as block
-use Rattle.block.proofs.RoundTrip.{written-is-read-back, read-is-written-back}
-use Rattle.block.proofs.Values.{numbers-are-sound, numbers-in-range-fit}
-use Rattle.block.proofs.WrittenDigits.{count-one, count-more}
-use Rattle.curve.specs.Curves.{within, pairsInRange, vollInRange, floorInRange, curvesInRange, pairFields, curveFields, pairValues, curveValues, curvesOf, refusedCurves, afterCurves, afterCurveBlock, readCurves, curveText}
+use Rattle.writer.specs.Promises.{AllSound, none-sound, one-sound, AllFitting, none-fitting, one-fitting, Fitting}
+use Rattle.block.specs.declared.Block.{Block}
+use Rattle.block.specs.declared.Block.the-variants as block
+use Rattle.writer.proofs.RoundTrip.{written-is-read-back, read-is-written-back}
+use Rattle.writer.proofs.Values.{numbers-are-sound, numbers-in-range-fit}
+use Rattle.writer.proofs.WrittenDigits.{count-one, count-more}
+use Rattle.curve_set.specs.Curves.{within, pairsInRange, vollInRange, floorInRange, curvesInRange, refusedCurves}
+use Rattle.curve.specs.CurveText.{pairFields, curveFields, afterCurves, afterCurveBlock, readCurves, curveText}
+use Rattle.curve_values.specs.CurveValues.{pairValues, curveValues, curvesOf}
 use Rattle.curve.specs.Promises.{CurveTextIsReadBack, CurveTextIsWrittenBack, CurveTextIsShort}
-use Rattle.curve.specs.declared.answer.Answer.the-variants as answer
-use Rattle.curve.specs.declared.curves.Pair.{Pair}
-use Rattle.curve.specs.declared.curves.CurveSet.{CurveSet}
-use Rattle.curve.proofs.CurveValues.{set-of-values, values-of-set}
+use Rattle.curve_set.specs.declared.answer.Answer.the-variants as answer
+use Rattle.curve_set.specs.declared.Pair.{Pair}
+use Rattle.curve_set.specs.declared.CurveSet.{CurveSet}
+use Rattle.curve_values.proofs.CurveValues.{set-of-values, values-of-set}
 use Rattle.curve.proofs.CurveText.{fifty-lines, reading-length}
 
 -- ---- the schema is sound, and a set in range fits it

@@ -13,25 +13,27 @@ use Rattle.text.specs.Choice.{pick}
 use Rattle.text.specs.Bytes.{bytes}
 use Rattle.text.specs.Piece.{piecesFrom}
 use Rattle.text.specs.Refusal.{refusalOf}
-use Rattle.text.specs.Line.{endAt, endFault}
+use Rattle.line.specs.Line.{endAt, endFault}
 use Rattle.text.specs.declared.refusal.Fault.{Fault}
 use Rattle.text.specs.declared.refusal.Refusal.{Refusal}
-use Rattle.text.specs.declared.line.End.{End}
-use Rattle.text.specs.declared.line.End.the-variants as end
+use Rattle.line.specs.declared.End.{End}
+use Rattle.line.specs.declared.End.the-variants as end
 use Rattle.text.proofs.Choices.{chosen, passed-over}
-use Rattle.value.specs.Field.{Field, Answer, got, refused, fieldAt}
+use Rattle.line.specs.Field.{Field, Answer, got, refused, fieldAt}
 use Rattle.block.specs.Block.{andThen, readFields, writeFields, repeated, numberFields, keysOf, laidOver, placedFields, blockFault, BlockRead}
-use Rattle.block.specs.declared.read.Block.{Block}
-use Rattle.block.specs.declared.read.Block.the-variants as block
-use Rattle.block.specs.Write.{writtenNumbers, laidAt, TextWritten, BlockWritten}
-use Rattle.block.specs.declared.write.Written.{Written}
-use Rattle.block.specs.declared.write.Written.the-variants as written
-use Rattle.block.proofs.Values.{written-by-schema}
-use Rattle.curve.specs.Curves.{curvesInRange, curveFields, pairValues, curveValues, evenCurves, curvesOf, refusedCurves, afterCurveBlock, readCurves, curveText, writingCurves, writtenBuffer, CurvesWritten}
-use Rattle.curve.specs.declared.answer.Answer.the-variants as answer
-use Rattle.curve.specs.declared.curves.CurveSet.{CurveSet}
-use Rattle.curve.specs.declared.curves.Curves.{Curves}
-use Rattle.curve.specs.declared.curves.WrittenCurves.the-variants as written-curves
+use Rattle.block.specs.declared.Block.{Block}
+use Rattle.block.specs.declared.Block.the-variants as block
+use Rattle.writer.specs.Write.{writtenNumbers, laidAt, TextWritten, BlockWritten}
+use Rattle.writer.specs.declared.Written.{Written}
+use Rattle.writer.specs.declared.Written.the-variants as written
+use Rattle.writer.proofs.Values.{written-by-schema}
+use Rattle.curve_set.specs.Curves.{curvesInRange, evenCurves, refusedCurves}
+use Rattle.curve.specs.CurveText.{curveFields, afterCurveBlock, readCurves, curveText, writingCurves, writtenBuffer, CurvesWritten}
+use Rattle.curve_values.specs.CurveValues.{pairValues, curveValues, curvesOf}
+use Rattle.curve_set.specs.declared.answer.Answer.the-variants as answer
+use Rattle.curve_set.specs.declared.CurveSet.{CurveSet}
+use Rattle.curve_set.specs.declared.Curves.{Curves}
+use Rattle.curve.specs.declared.WrittenCurves.the-variants as written-curves
 
 -- ---- the schema, as the code holds it
 

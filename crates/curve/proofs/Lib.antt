@@ -1,5 +1,4 @@
 -- Laws that crates above cite; the proofs of the named statements of specs/Promises.antt.
 pub mod KnownValues
-pub mod CurveValues
 pub mod CurveText
 pub mod CurveRoundTrip

@@ -1,6 +1,4 @@
--- Document 01, "History to curves": season, block and group, the curve set and its text; the two probabilities of "The two prices".
-pub mod Answer
-pub mod Season
-pub mod Curves
-pub mod Known
+-- Document 01, "History to curves": the text of a curve set, its promises, and known values.
+pub mod CurveText
 pub mod Promises
+pub mod Known

@@ -4,9 +4,10 @@ use mathlib.Core.Path.{_≡_}
 use mathlib.Core.Bool.{true}
 use mathlib.Core.List.{List}
 use lib.ListN.{length}
-use Rattle.curve.specs.Curves.{curvesInRange, readCurves, curveText}
-use Rattle.curve.specs.declared.answer.Answer.the-variants as answer
-use Rattle.curve.specs.declared.curves.CurveSet.{CurveSet}
+use Rattle.curve_set.specs.Curves.{curvesInRange}
+use Rattle.curve.specs.CurveText.{readCurves, curveText}
+use Rattle.curve_set.specs.declared.answer.Answer.the-variants as answer
+use Rattle.curve_set.specs.declared.CurveSet.{CurveSet}
 
 -- ---- demand 2: every curve set in range has exactly one text
 

@@ -1,8 +1,8 @@
 // The program `curves`: history hours on standard input to the curve text on standard output.
 use libc::STDIN_FILENO;
 use libc::STDOUT_FILENO;
+use line::part;
 use stream::Stream;
-use text::line::part;
 
 // No input has more reads than this, so that the program ends.
 const MOST_READS: u64 = 1099511627776;
@@ -14,7 +14,7 @@ fn read(input: &mut [u8; 65536]) -> usize {
 }
 
 fn feed(current: Stream, buffer: &mut [u8; 65536], input: &[u8; 65536], count: usize) -> Stream {
-    stream::feed(current, buffer, part(input, 0, count))
+    stream_input::feed(current, buffer, part(input, 0, count))
 }
 
 fn print(output: &[u8; 768], count: usize) {
@@ -39,6 +39,6 @@ fn main() {
         reads += 1;
     }
     let mut output = [0u8; 768];
-    let length = stream::finish(current, &buffer, &mut output);
+    let length = stream_output::finish(current, &buffer, &mut output);
     print(&output, length);
 }

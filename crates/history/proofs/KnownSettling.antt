@@ -3,11 +3,12 @@ use mathlib.Core.Path.{_≡_, refl}
 use Rattle.integer.specs.Floor.{floorDiv}
 use Rattle.integer.specs.Quadratic.{quadratic}
 use Rattle.integer.specs.Root.{raised, rootIn, rootOf}
-use Rattle.curve.specs.Curves.{pairValues}
+use Rattle.curve_values.specs.CurveValues.{pairValues}
 use Rattle.curve.specs.Known.{AllHold, knownValues}
 use Rattle.curve.proofs.KnownValues.{known-values, all-append}
-use Rattle.history.specs.Record.{withError, meanOf, squaresAround, possible, allPossible}
-use Rattle.history.specs.Settle.{spreadOf, pairOf, settledGroups, settled}
+use Rattle.history.specs.Booking.{withError}
+use Rattle.record.specs.Record.{meanOf, squaresAround, possible, allPossible}
+use Rattle.record.specs.Settle.{spreadOf, pairOf, settledGroups, settled}
 use Rattle.history.specs.Known.{settledValues, knownSettling}
 
 settled-values : AllHold settledValues

@@ -1,8 +1,6 @@
 -- Laws that the proofs of several functions share, and that crates above cite; the proofs of the named statements of specs/Promises.antt.
-pub mod Possible
-pub mod Range
 pub mod Closure
 pub mod Shift
-pub mod Booking
+pub mod Booked
 pub mod Examples
 pub mod KnownSettling

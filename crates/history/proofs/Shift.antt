@@ -15,13 +15,14 @@ use Rattle.integer.proofs.Floor.{floor-shift}
 use Rattle.integer.proofs.Quadratic.{quadratic-shift}
 use Rattle.text.specs.Choice.{pick}
 use Rattle.text.specs.declared.refusal.Refusal.{Refusal}
-use Rattle.curve.specs.declared.answer.Answer.{Answer}
-use Rattle.curve.specs.declared.answer.Answer.the-variants as answer
-use Rattle.history.specs.declared.record.Group.{Group}
-use Rattle.history.specs.declared.record.Record.{Record}
+use Rattle.curve_set.specs.declared.answer.Answer.{Answer}
+use Rattle.curve_set.specs.declared.answer.Answer.the-variants as answer
+use Rattle.record.specs.declared.Group.{Group}
+use Rattle.record.specs.declared.Record.{Record}
 use Rattle.hour.specs.Hour.{Hour, Run, HourAnswer, read, refused, hourIn, hourAhead, hourGroup, errorOf, scedSum}
-use Rattle.history.specs.Record.{noHours, fresh, groupAt, withGroup, meanOf, squaresAround, allPossible, withError, kept, bookError, bookHour, booked}
-use Rattle.history.specs.Settle.{spreadOf}
+use Rattle.record.specs.Record.{noHours, fresh, groupAt, withGroup, meanOf, squaresAround, allPossible}
+use Rattle.history.specs.Booking.{withError, kept, bookError, bookHour, booked}
+use Rattle.record.specs.Settle.{spreadOf}
 use Rattle.history.specs.Promises.{bookedAll, HourLowered, hour-lowered, PlaceLowered, both-refused, both-accepted, ListsLowered, LoweredErrorsLowerMeans}
 
 -- ---- one group: every error of the second is lower by d

@@ -2,12 +2,13 @@
 use mathlib.Core.List.{List, [], _∷_, _++_}
 use lib.IntN.{ℤ, pos, negℤ}
 use lib.ListN.{replicate}
-use Rattle.curve.specs.Curves.{pairValues}
+use Rattle.curve_values.specs.CurveValues.{pairValues}
 use Rattle.curve.specs.Known.{numberAndLine, knownValues}
-use Rattle.history.specs.Record.{noHours, withError, meanOf}
-use Rattle.history.specs.Settle.{settled}
-use Rattle.history.specs.declared.record.Group.{Group}
-use Rattle.curve.specs.declared.curves.Curves.{Curves}
+use Rattle.record.specs.Record.{noHours, meanOf}
+use Rattle.history.specs.Booking.{withError}
+use Rattle.record.specs.Settle.{settled}
+use Rattle.record.specs.declared.Group.{Group}
+use Rattle.curve_set.specs.declared.Curves.{Curves}
 
 -- two errors, and the curves where each group has these two
 abbrev pub twoErrors : ℤ → ℤ → Group

@@ -1,5 +1,4 @@
--- Document 01, "History to curves": one hour's text, the record, settling.
-pub mod Record
-pub mod Settle
+-- Document 01, "History to curves": booking hours; two lists of bookings; known values of settling.
+pub mod Booking
 pub mod Known
 pub mod Promises

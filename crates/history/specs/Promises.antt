@@ -5,13 +5,14 @@ use mathlib.Core.Bool.{true}
 use mathlib.Core.List.{List, [], _∷_}
 use lib.IntN.{ℤ, pos, _-ℤ_}
 use Rattle.text.specs.declared.refusal.Refusal.{Refusal}
-use Rattle.curve.specs.Curves.{curvesInRange}
+use Rattle.curve_set.specs.Curves.{curvesInRange}
 use Rattle.hour.specs.Hour.{Hour, Run, HourAnswer, read, hourIn, hourAhead}
-use Rattle.history.specs.Record.{fresh, groupAt, meanOf, allPossible, booked}
-use Rattle.history.specs.Settle.{spreadOf, settled}
-use Rattle.curve.specs.declared.answer.Answer.{Answer}
-use Rattle.curve.specs.declared.answer.Answer.the-variants as answer
-use Rattle.history.specs.declared.record.Record.{Record}
+use Rattle.record.specs.Record.{fresh, groupAt, meanOf, allPossible}
+use Rattle.history.specs.Booking.{booked}
+use Rattle.record.specs.Settle.{spreadOf, settled}
+use Rattle.curve_set.specs.declared.answer.Answer.{Answer}
+use Rattle.curve_set.specs.declared.answer.Answer.the-variants as answer
+use Rattle.record.specs.declared.Record.{Record}
 
 -- ---- a list of bookings: each gets the record that the one before returned
 
@@ -22,11 +23,6 @@ bookedAll history (text ∷ texts) = bookedAll (booked history text .history) te
 -- a record made by any bookings from the fresh one is never impossible (1)
 abbrev pub BookedRecordsArePossible : Type 0
 BookedRecordsArePossible = (texts : List (List ℕ)) → allPossible (bookedAll fresh texts .groups) ≡ true
-
--- a settled curve set is in range
-abbrev pub SettledCurvesAreInRange : Type 0
-SettledCurvesAreInRange =
-    (history : Record) (voll floor : ℤ) → settled history voll floor .answer ≡ answer.Accepted → curvesInRange (settled history voll floor .set) ≡ true
 
 -- ---- two lists of bookings, the second with every hour-ahead reserve lower by the same whole number of kW
 

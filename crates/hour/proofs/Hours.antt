@@ -10,26 +10,23 @@ use lib.IntN.{ℤ, pos, negℤ, natAbs, _+ℤ_, _-ℤ_}
 use lib.Signed.{_≤ℤ_}
 use lib.ListN.{length, replicate, take, drop, length-drop}
 use lib.Seq.{take-all}
-use mir.Syntax.{w64}
-use mir.Val.{toZ, ofZ}
 use borrow.Author.Tests.{lt-ltb, le-ltb}
 use Rattle.integer.specs.Floor.{floorDiv}
 use Rattle.integer.proofs.Difference.{view, toℕ}
-use Rattle.integer.proofs.Bounds.{abs-add, abs-sub}
 use Rattle.integer.proofs.Floor.{floor-bound}
 use Rattle.text.specs.Choice.{pick}
 use Rattle.text.specs.Bytes.{bytes}
 use Rattle.text.specs.Piece.{piecesFrom}
-use Rattle.text.specs.Line.{endAt}
+use Rattle.line.specs.Line.{endAt}
 use Rattle.text.specs.Refusal.{refusalOf}
-use Rattle.value.specs.Field.{Field}
+use Rattle.line.specs.Field.{Field}
 use Rattle.block.specs.Block.{Reading, readFields, repeated, numberFields, keysOf, placedFields, BlockRead, value}
-use Rattle.curve.specs.Season.{groupOf, seasonOf, blockOf}
+use Rattle.season.specs.Season.{groupOf, seasonOf, blockOf}
 use Rattle.text.specs.declared.refusal.Fault.{Fault}
-use Rattle.text.specs.declared.line.End.{End}
-use Rattle.text.specs.declared.line.End.the-variants as end
-use Rattle.block.specs.declared.read.Block.{Block}
-use Rattle.block.specs.declared.read.Block.the-variants as block
+use Rattle.line.specs.declared.End.{End}
+use Rattle.line.specs.declared.End.the-variants as end
+use Rattle.block.specs.declared.Block.{Block}
+use Rattle.block.specs.declared.Block.the-variants as block
 use Rattle.hour.specs.Hour.{Hour, hourFields, hourOf, Run, runFields, runsOf, HourAnswer, read, refused, afterRuns, afterRunBlock, runsAt, afterHourBlock, hourIn, hourAhead, scedSum, errorOf, hourGroup, errorAnswer, intervalsOf, intervalsIn, intervalFault, moved, Bounded}
 use Rattle.hour.specs.declared.read.Intervals.{Intervals}
 use Rattle.hour.specs.declared.read.Intervals.the-variants as intervals
@@ -37,7 +34,7 @@ use Rattle.hour.specs.declared.read.ReadHour.{ReadHour}
 use Rattle.hour.specs.declared.read.ReadHour.the-variants as read-hour
 use Rattle.block.proofs.Shifted.{movedBlock, movedReading, reading-moved, reading-within}
 use Rattle.block.proofs.Readings.{Within, values-within, values-bounded, block-ends, block-values}
-use Rattle.hour.proofs.Runs.{held, sumSize, runs-length, runs-bounded, runs-within}
+use Rattle.hour.proofs.Runs.{sumSize, runs-length, runs-bounded, runs-within}
 
 -- ---- the values of the hour's own lines
 
@@ -109,48 +106,6 @@ module _ (text : List ℕ) (at next : ℕ) (e : readFields hourFields text at .e
   pub hour-bounded : Bounded 100000000 (readFields hourFields text at .values)
   hour-bounded place =
       rw (← hour-schema) (values-bounded 100000000 (keysOf hourKeys) hourLows hourHighs refl refl text at next (rw hour-schema e) place)
-
-pub ahead-bounded : (values : List ℤ) → Bounded 100000000 values → natAbs (hourAhead (hourOf values)) ≤ 900000000
-unfolding hourAhead
-ahead-bounded values b =
-    sums
-    (value values 2)
-    (value values 3)
-    (value values 4)
-    (value values 5)
-    (value values 6)
-    (value values 7)
-    (value values 8)
-    (value values 9)
-    (value values 10)
-    (b 2)
-    (b 3)
-    (b 4)
-    (b 5)
-    (b 6)
-    (b 7)
-    (b 8)
-    (b 9)
-    (b 10)
-  where
-    small : ℤ → Type 0
-    small z = natAbs z ≤ 100000000
-
-    sums :
-        (p q r s t u v w x : ℤ) → small p → small q → small r → small s → small t → small u → small v → small w → small x →
-        natAbs (p -ℤ q -ℤ r +ℤ s +ℤ t +ℤ u +ℤ v +ℤ w +ℤ x) ≤ 900000000
-    sums p q r s t u v w x h0 h1 h2 h3 h4 h5 h6 h7 h8 =
-        omega (
-          arith,
-          abs-sub p q,
-          abs-sub (p -ℤ q) r,
-          abs-add (p -ℤ q -ℤ r) s,
-          abs-add (p -ℤ q -ℤ r +ℤ s) t,
-          abs-add (p -ℤ q -ℤ r +ℤ s +ℤ t) u,
-          abs-add (p -ℤ q -ℤ r +ℤ s +ℤ t +ℤ u) v,
-          abs-add (p -ℤ q -ℤ r +ℤ s +ℤ t +ℤ u +ℤ v) w,
-          abs-add (p -ℤ q -ℤ r +ℤ s +ℤ t +ℤ u +ℤ v +ℤ w) x,
-        )
 
 -- ---- the group and the number of runs
 
@@ -237,7 +192,31 @@ pub hour-long : (text : List ℕ) → 65536 < length text → read-hour.Refused 
 unfolding hourIn
 hour-long text h = rw (lt-ltb 65536 (length text) h)
 
--- ---- the answer, from what the functions give: the hour's own lines are read as a block
+-- ---- the answer, from what the functions give
+
+-- the interval reader read the part from a position on
+module _
+    (text : List ℕ) (values : List ℤ) (next : ℕ) {runs : ℕ} (inside : next ≤ length text) (counted : runs ≡ natAbs (value values 12))
+    {given : Intervals} (reads : given ≡ intervalsIn runs (take (length text - next) (drop next text))) where
+  rest-read : given ≡ intervalsIn runs (drop next text)
+  rest-read = rw (take-all (length text - next) (drop next text) (omega (arith, length-drop next text))) at reads
+
+  pub given-within : next + intervalFault given .at ≤ length text
+  given-within = rw rest-read (omega (arith, inside, length-drop next text, runs-within runs (drop next text)))
+
+  pub runs-answers : (found : Intervals) → given ≡ found → answerOf text (hourOf values) next found ≡ errorAnswer (runsAt text (hourOf values) next)
+  runs-answers found is = rw (← is, rest-read, counted) (runs-answer text (hourOf values) next)
+
+  module _ (sum : ℤ) (after : ℕ) (is : given ≡ intervals.Sum sum after) where
+    pub runs-ended : (found : End) → found ≡ endAt text (next + after) → answerAtEnd text (hourOf values) sum found ≡ errorAnswer (runsAt text (hourOf values) next)
+    runs-ended found e = rw e (runs-answers (intervals.Sum sum after) is)
+
+    pub mean-small : natAbs (floorDiv sum runs) ≤ 900000000
+    mean-small =
+        let size : sumSize given ≤ runs * 900000000 = rw rest-read (runs-bounded runs (drop next text) 0) in
+        floor-bound sum runs 900000000 (rw is at size)
+
+-- the hour's own lines were read as a block
 module _
     {text : List ℕ} {values : List ℤ} {ended : Block} (short : length text ≤ 65536)
     (read : BlockRead text 0 hourKeys hourLows hourHighs (replicate 13 (pos 0)) values ended) where
@@ -258,42 +237,12 @@ module _
     pub own-bounded : Bounded 100000000 values
     own-bounded place = rw own-values (hour-bounded text 0 next own-read place)
 
-    pub own-held : (place : ℕ) → toZ w64 (ofZ w64 (value values place)) ≡ value values place
-    own-held = held values own-bounded
-
-    pub own-ahead : natAbs (hourAhead (hourOf values)) ≤ 900000000
-    own-ahead = ahead-bounded values own-bounded
-
     pub next-within : next ≤ length text
     next-within = rw own-read at (reading-within text hourFields 0 (omega arith))
 
-    -- the interval reader read the part from there on
-    module _ {runs : ℕ} (counted : runs ≡ natAbs (toZ w64 (ofZ w64 (value values 12)))) where
-      runs-are : runs ≡ natAbs (value values 12)
-      runs-are = counted ∙ ap natAbs (own-held 12)
+    pub runs-few : natAbs (value values 12) ≤ 60
+    runs-few = rw own-values (runs-range (hourOf (readFields hourFields text 0 .values)) (hour-ranges text 0 next own-read) .1)
 
-      own-runs : (1 ≤ runs) × (runs ≤ 60)
-      own-runs = rw (runs-are, own-values) (runs-range (hourOf (readFields hourFields text 0 .values)) (hour-ranges text 0 next own-read))
-
-      pub runs-few : runs ≤ 60
-      runs-few = own-runs .1
-
-      module _ {given : Intervals} (reads : given ≡ intervalsIn runs (take (length text - next) (drop next text))) where
-        rest-read : given ≡ intervalsIn runs (drop next text)
-        rest-read = rw (take-all (length text - next) (drop next text) (omega (arith, length-drop next text))) at reads
-
-        pub given-within : next + intervalFault given .at ≤ length text
-        given-within = rw rest-read (omega (arith, next-within, length-drop next text, runs-within runs (drop next text)))
-
-        pub hour-answers : (found : Intervals) → given ≡ found → answerOf text (hourOf values) next found ≡ errorAnswer (hourIn text)
-        unfolding hourIn
-        hour-answers found is = rw (← is, rest-read, runs-are, le-ltb 65536 (length text) short, own-read, ← own-values) (runs-answer text (hourOf values) next)
-
-        module _ (sum : ℤ) (after : ℕ) (is : given ≡ intervals.Sum sum after) where
-          pub hour-ended : (found : End) → found ≡ endAt text (next + after) → answerAtEnd text (hourOf values) sum found ≡ errorAnswer (hourIn text)
-          hour-ended found e = rw e (hour-answers (intervals.Sum sum after) is)
-
-          pub mean-small : natAbs (floorDiv sum runs) ≤ 900000000
-          mean-small =
-              let size : sumSize given ≤ runs * 900000000 = rw rest-read (runs-bounded runs (drop next text) 0) in
-              floor-bound sum runs 900000000 (rw is at size)
+    pub runs-left : errorAnswer (runsAt text (hourOf values) next) ≡ errorAnswer (hourIn text)
+    unfolding hourIn
+    runs-left = rw (le-ltb 65536 (length text) short, own-read, ← own-values)

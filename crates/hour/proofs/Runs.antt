@@ -7,16 +7,13 @@ use mathlib.Core.Path.{_≡_, refl, sym, ap, _∙_}
 use lib.IntN.{ℤ, pos, natAbs, _+ℤ_, _-ℤ_, +ℤ-assoc, +ℤ-idl, +ℤ-idr}
 use lib.ListN.{length, replicate, drop, List·getD-append}
 use lib.Seq.{drop-at}
-use mir.Syntax.{w64}
-use mir.Val.{SFits, toZ, ofZ}
-use mir.Facts.{toZ-ofZ}
-use Rattle.integer.proofs.Bounds.{abs-add, abs-sub, abs-fits}
+use Rattle.integer.proofs.Bounds.{abs-add, abs-sub}
 use Rattle.text.specs.Piece.{piecesFrom}
 use Rattle.text.specs.Bytes.{bytes}
 use Rattle.block.specs.Block.{Reading, readFields, repeated, numberFields, keysOf, placedFields, BlockRead, value, blockFault}
 use Rattle.text.specs.declared.refusal.Fault.{Fault}
-use Rattle.block.specs.declared.read.Block.{Block}
-use Rattle.block.specs.declared.read.Block.the-variants as block
+use Rattle.block.specs.declared.Block.{Block}
+use Rattle.block.specs.declared.Block.the-variants as block
 use Rattle.hour.specs.Hour.{Run, runFields, runOf, runsOf, scedReserve, scedSum, intervalsOf, intervalsIn, intervalFault, Bounded}
 use Rattle.hour.specs.declared.read.Intervals.{Intervals}
 use Rattle.hour.specs.declared.read.Intervals.the-variants as intervals
@@ -27,16 +24,6 @@ pub runs-length : (n : ℕ) (values : List ℤ) → length (runsOf n values) ≡
 unfolding runsOf
 runs-length zero values = refl
 runs-length (suc n) values = ap suc (runs-length n (drop 9 values))
-
--- a bounded value as the machine holds it
-pub bounded-fits : (values : List ℤ) → Bounded 100000000 values → (place : ℕ) → SFits w64 (value values place)
-bounded-fits values b place = omega (arith, abs-fits, b place)
-
-pub held : (values : List ℤ) → Bounded 100000000 values → (place : ℕ) → toZ w64 (ofZ w64 (value values place)) ≡ value values place
-held values b place = toZ-ofZ (bounded-fits values b place)
-
-pub held-small : (values : List ℤ) → Bounded 100000000 values → (place : ℕ) → natAbs (toZ w64 (ofZ w64 (value values place))) ≤ 100000000
-held-small values b place = rw (held values b place) (b place)
 
 -- ---- the values of one run
 
@@ -116,12 +103,41 @@ module _
   pub run-filled : (next : ℕ) → ended ≡ block.Read next → values ≡ readFields runFields part at .values
   run-filled = block-values runFields run-places run-count read
 
-  module _ (next : ℕ) (e : ended ≡ block.Read next) where
-    pub run-held : Bounded 100000000 values
-    run-held place = rw (run-filled next e) (run-bounded part at next (sym run-ends ∙ e) place)
+  pub run-held : (next : ℕ) → ended ≡ block.Read next → Bounded 100000000 values
+  run-held next e place = rw (run-filled next e) (run-bounded part at next (sym run-ends ∙ e) place)
 
-    pub run-small : natAbs (scedReserve (runOf values)) ≤ 900000000
-    run-small = sced-bounded values run-held
+  -- one run as an interval reader gives it
+  pub one-refused : {found fault : Fault} → ended ≡ block.Refused found → fault ≡ blockFault ended → intervals.Refused fault ≡ intervalsOf 1 (readFields runFields part at)
+  one-refused told is = rw (is, ← run-ends, told)
+
+  pub one-read : {next : ℕ} {reserve : ℤ} → ended ≡ block.Read next → reserve ≡ scedReserve (runOf values) → intervals.Sum reserve next ≡ intervalsOf 1 (readFields runFields part at)
+  unfolding runsOf scedSum
+  one-read {next} told is =
+      rw (← run-ends, told, is, run-filled next told, +ℤ-idr (scedReserve (runOf (readFields runFields part at .values))))
+
+-- what the answer of one run says of its lines
+module _ (reading : Reading ℤ) where
+  pub refused-run : {found : Fault} → intervalsOf 1 reading ≡ intervals.Refused found → reading .end ≡ block.Refused found
+  refused-run {found} e = go (reading .end) refl e
+    where
+      go : (end : Block) → reading .end ≡ end → intervalsOf 1 (record { values = reading .values; end = end }) ≡ intervals.Refused found → reading .end ≡ block.Refused found
+      go (block.Refused other) is e = let same : other ≡ found = cc in rw (is, same)
+      go (block.Read next) is e = let z : _≡_ {A = ℕ} 0 1 = cc in absurd (omega arith)
+
+  pub read-run :
+      {reserve : ℤ} {after : ℕ} → intervalsOf 1 reading ≡ intervals.Sum reserve after →
+      (reading .end ≡ block.Read after) × (reserve ≡ scedReserve (runOf (reading .values)))
+  unfolding runsOf scedSum
+  read-run {reserve} {after} e = go (reading .end) refl e
+    where
+      go :
+          (end : Block) → reading .end ≡ end → intervalsOf 1 (record { values = reading .values; end = end }) ≡ intervals.Sum reserve after →
+          (reading .end ≡ block.Read after) × (reserve ≡ scedReserve (runOf (reading .values)))
+      go (block.Refused other) is e = let z : _≡_ {A = ℕ} 0 1 = cc in absurd (omega arith)
+      go (block.Read next) is e =
+          let same : next ≡ after = cc in
+          let sum : scedReserve (runOf (reading .values)) +ℤ pos 0 ≡ reserve = cc in
+          (rw (is, same), sym sum ∙ +ℤ-idr (scedReserve (runOf (reading .values))))
 
 -- ---- one run more
 
@@ -229,19 +245,21 @@ module _ {runs : ℕ} {part : List ℕ} {sum : ℤ} {next i : ℕ} (so-far : Run
     one-less : runs - i ≡ suc (runs - (i + 1))
     one-less = omega arith
 
-    pub runs-refused : (found : Fault) → readFields runFields part next .end ≡ block.Refused found → intervals.Refused found ≡ intervalsIn runs part
-    runs-refused found e = rw (so-far .rest, one-less, run-refused (runs - (i + 1)) part next found e)
+    pub runs-refused : {given : Intervals} {found : Fault} → given ≡ intervalsOf 1 (readFields runFields part next) → given ≡ intervals.Refused found → given ≡ intervalsIn runs part
+    runs-refused {found = found} is told =
+        rw (so-far .rest, one-less, run-refused (runs - (i + 1)) part next found (refused-run (readFields runFields part next) (sym is ∙ told)), told)
 
-    pub runs-more : (after : ℕ) → readFields runFields part next .end ≡ block.Read after → RunsRead runs part (sum +ℤ scedReserve (runOf (readFields runFields part next .values))) after (i + 1)
-    runs-more after e =
-        record {
-          some = omega arith;
-          small =
-              omega (
-                arith,
-                so-far .small,
-                abs-add sum (scedReserve (runOf (readFields runFields part next .values))),
-                sced-bounded (readFields runFields part next .values) (run-bounded part next after e),
-              );
-          rest = rw (so-far .rest, one-less, run-read (runs - (i + 1)) part next after e) (with-sums sum (scedReserve (runOf (readFields runFields part next .values))) (intervalsFrom (runs - (i + 1)) part after));
-        }
+    module _ {given : Intervals} {reserve : ℤ} {after : ℕ} (is : given ≡ intervalsOf 1 (readFields runFields part next)) (told : given ≡ intervals.Sum reserve after) where
+      one : (readFields runFields part next .end ≡ block.Read after) × (reserve ≡ scedReserve (runOf (readFields runFields part next .values)))
+      one = read-run (readFields runFields part next) (sym is ∙ told)
+
+      pub reserve-small : natAbs reserve ≤ 900000000
+      reserve-small = rw (one .1) (sced-bounded (readFields runFields part next .values) (run-bounded part next after (one .0)))
+
+      pub runs-more : RunsRead runs part (sum +ℤ reserve) after (i + 1)
+      runs-more =
+          record {
+            some = omega arith;
+            small = omega (arith, so-far .small, abs-add sum reserve, reserve-small);
+            rest = rw (so-far .rest, one-less, run-read (runs - (i + 1)) part next after (one .0), one .1) (with-sums sum (scedReserve (runOf (readFields runFields part next .values))) (intervalsFrom (runs - (i + 1)) part after));
+          }

@@ -8,16 +8,17 @@ use Rattle.integer.specs.Floor.{floorDiv}
 use Rattle.text.specs.Choice.{pick}
 use Rattle.text.specs.Bytes.{bytes}
 use Rattle.text.specs.Refusal.{refusalOf}
-use Rattle.text.specs.Line.{fault, endAt}
-use Rattle.value.specs.Field.{Field, numberField}
+use Rattle.line.specs.Line.{fault, endAt}
+use Rattle.line.specs.Field.{Field}
+use Rattle.number.specs.Field.{numberField}
 use Rattle.block.specs.Block.{Reading, readFields, repeated, value}
 use Rattle.text.specs.declared.refusal.Fault.{Fault}
 use Rattle.text.specs.declared.refusal.Refusal.{Refusal}
-use Rattle.text.specs.declared.line.End.{End}
-use Rattle.text.specs.declared.line.End.the-variants as end
-use Rattle.block.specs.declared.read.Block.{Block}
-use Rattle.block.specs.declared.read.Block.the-variants as block
-use Rattle.curve.specs.Season.{groupOf}
+use Rattle.line.specs.declared.End.{End}
+use Rattle.line.specs.declared.End.the-variants as end
+use Rattle.block.specs.declared.Block.{Block}
+use Rattle.block.specs.declared.Block.the-variants as block
+use Rattle.season.specs.Season.{groupOf}
 use Rattle.hour.specs.declared.read.Intervals.{Intervals}
 use Rattle.hour.specs.declared.read.Intervals.the-variants as intervals
 use Rattle.hour.specs.declared.read.ReadHour.{ReadHour}

@@ -1,6 +1,6 @@
 // Whole numbers: the magnitude of a signed number, division rounded down, the square root.
 ghost use mathlib.Core.Path.{_≡_};
-ghost use Prim.Native.Nat.{_/_};
+ghost use Prim.Native.Nat.{_/_, _≤_};
 ghost use lib.IntN.{pos, negsuc, natAbs};
 ghost use lib.Signed.{_<ℤ_};
 ghost use Rattle.integer.specs.Floor.{floorDiv};
@@ -54,4 +54,11 @@ pub fn root(x: u64) -> u64
         r = (r + x / r) / 2;
     }
     r
+}
+
+// A number in twice the width.
+pub fn wide(x: i32) -> i64
+    ensures { λ r. ⌜ (r ≡ x) × (natAbs r ≤ 2147483648) ⌝ }
+{
+    x as i64
 }

@@ -11,10 +11,11 @@ use lib.IntN.{ℤ, pos}
 use lib.ListN.{length, take, drop, getD, set}
 use lib.Seq.{drop-cons, drop-drop, getD-drop, lt-length-set, take-suc-set}
 use Rattle.block.specs.Block.{value}
-use Rattle.history.specs.Record.{noHours, allPossible, kept, booked}
+use Rattle.record.specs.Record.{noHours, allPossible}
+use Rattle.history.specs.Booking.{kept, booked}
 use Rattle.history.proofs.Closure.{booked-possible}
-use Rattle.history.specs.declared.record.Group.{Group}
-use Rattle.history.specs.declared.record.Record.{Record}
+use Rattle.record.specs.declared.Group.{Group}
+use Rattle.record.specs.declared.Record.{Record}
 use Rattle.ordc.specs.Refusal.{refusalIn}
 use Rattle.ordc.specs.Record.{countOf, groupsOf, groupValues}
 use Rattle.ordc.specs.Promises.{RecordIsReadBack}

@@ -5,14 +5,15 @@ use mathlib.Core.Bool.{Bool, true, false}
 use mathlib.Core.List.{List}
 use mathlib.Core.Path.{_≡_, refl}
 use Rattle.text.specs.Choice.{pick}
-use Rattle.curve.specs.Curves.{curvesInRange}
-use Rattle.curve.specs.declared.curves.CurveSet.{CurveSet}
+use Rattle.curve_set.specs.Curves.{curvesInRange}
+use Rattle.curve_set.specs.declared.CurveSet.{CurveSet}
 use Rattle.adder.specs.Price.{pricesOf, refusedPricing, valueOfReserve}
 use Rattle.adder.proofs.Bounds.{curves-bound, header-bound, value-bound}
 use Rattle.adder.proofs.Order.{shortage-online-bound, shortage-offline-bound, offline-online-value}
 use Rattle.sums.specs.Sums.{sumsOf}
-use Rattle.pricing.specs.Snapshot.{SnapshotAnswer, read, turned-back, snapshotIn, resourcesOf, pricedSnapshot, priced}
-use Rattle.pricing.proofs.Readings.{snapshot-read, header-fault}
+use Rattle.snapshot.specs.Snapshot.{SnapshotAnswer, read, turned-back, snapshotIn, resourcesOf}
+use Rattle.pricing.specs.Pricing.{pricedSnapshot, priced}
+use Rattle.snapshot.proofs.Readings.{snapshot-read, header-fault}
 use Rattle.ordc.specs.Price.{SmallPrices, SmallPricing}
 
 snapshot-small : (curves : CurveSet) (text : List ℕ) (a : SnapshotAnswer) → curvesInRange curves ≡ true → snapshotIn text ≡ a → SmallPricing (pricedSnapshot curves a)

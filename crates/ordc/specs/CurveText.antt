@@ -3,11 +3,12 @@ use Prim.Native.Nat.{ℕ}
 use mathlib.Core.Path.{_≡_}
 use mathlib.Core.List.{List}
 use lib.IntN.{ℤ}
-use Rattle.curve.specs.Curves.{curveValues, curvesOf, readCurves, writingCurves, writtenBuffer}
-use Rattle.curve.specs.declared.answer.Answer.{Answer}
-use Rattle.curve.specs.declared.answer.Answer.the-variants as answer
-use Rattle.curve.specs.declared.curves.WrittenCurves.{WrittenCurves}
-use Rattle.curve.specs.declared.curves.WrittenCurves.the-variants as written
+use Rattle.curve_values.specs.CurveValues.{curveValues, curvesOf}
+use Rattle.curve.specs.CurveText.{readCurves, writingCurves, writtenBuffer}
+use Rattle.curve_set.specs.declared.answer.Answer.{Answer}
+use Rattle.curve_set.specs.declared.answer.Answer.the-variants as answer
+use Rattle.curve.specs.declared.WrittenCurves.{WrittenCurves}
+use Rattle.curve.specs.declared.WrittenCurves.the-variants as written
 use Rattle.ordc.specs.Refusal.{refusalIn, Answered}
 use Rattle.ordc.specs.declared.refusal.Refusal.{Refusal}
 

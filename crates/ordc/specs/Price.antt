@@ -3,13 +3,13 @@ use Prim.Native.Nat.{ℕ, _≤_}
 use mathlib.Core.List.{List, [], _∷_}
 use lib.IntN.{ℤ, pos}
 use lib.ListN.{replicate}
-use Rattle.curve.specs.Curves.{curvesOf}
-use Rattle.curve.specs.declared.answer.Answer.{Answer}
-use Rattle.curve.specs.declared.answer.Answer.the-variants as answer
+use Rattle.curve_values.specs.CurveValues.{curvesOf}
+use Rattle.curve_set.specs.declared.answer.Answer.{Answer}
+use Rattle.curve_set.specs.declared.answer.Answer.the-variants as answer
 use Rattle.adder.specs.declared.price.Prices.{Prices}
 use Rattle.adder.specs.declared.price.Pricing.{Pricing}
 use Rattle.adder.specs.declared.price.Pricing.the-variants as pricing
-use Rattle.pricing.specs.Snapshot.{priced}
+use Rattle.pricing.specs.Pricing.{priced}
 use Rattle.ordc.specs.Refusal.{refusalIn, Answered}
 use Rattle.ordc.specs.declared.refusal.Refusal.{Refusal}
 

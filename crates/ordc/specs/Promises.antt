@@ -1,7 +1,7 @@
 -- Named statements on the layout.
 use mathlib.Core.Path.{_≡_}
 use lib.ListN.{length}
-use Rattle.history.specs.declared.record.Record.{Record}
+use Rattle.record.specs.declared.Record.{Record}
 use Rattle.ordc.specs.Record.{recordOf, recordValues}
 
 -- a record's numbers give the record back, so that calls one after another book as the bookings themselves do

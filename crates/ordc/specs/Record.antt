@@ -6,13 +6,13 @@ use lib.Signed.{ltZ}
 use lib.ListN.{drop}
 use Rattle.text.specs.Choice.{pick}
 use Rattle.block.specs.Block.{value}
-use Rattle.curve.specs.Curves.{curveValues}
-use Rattle.curve.specs.declared.curves.Curves.{Curves}
-use Rattle.history.specs.Record.{booked}
-use Rattle.history.specs.Settle.{settled}
-use Rattle.history.specs.declared.record.Group.{Group}
-use Rattle.history.specs.declared.record.Record.{Record}
-use Rattle.history.specs.declared.record.Booking.{Booking}
+use Rattle.curve_values.specs.CurveValues.{curveValues}
+use Rattle.curve_set.specs.declared.Curves.{Curves}
+use Rattle.history.specs.Booking.{booked}
+use Rattle.record.specs.Settle.{settled}
+use Rattle.record.specs.declared.Group.{Group}
+use Rattle.record.specs.declared.Record.{Record}
+use Rattle.history.specs.declared.Booking.{Booking}
 use Rattle.ordc.specs.Refusal.{refusalIn, Answered}
 use Rattle.ordc.specs.declared.refusal.Refusal.{Refusal}
 

@@ -3,8 +3,8 @@ ghost use mathlib.Core.Path.{_≡_};
 ghost use Rattle.ordc.specs.CurveText.{CurvesRead};
 use crate::refusal::Refusal;
 use crate::refusal::refusal_in;
-use curve::curve_text::read_curves;
-use curve::curve_text::values_of;
+use curve::read_curves;
+use curve_values::values_of;
 
 pub mod write;
 

@@ -4,9 +4,9 @@ ghost use Rattle.ordc.specs.Price.{pricingAnswer, pricingValues, SmallPr
 use crate::refusal::Refusal;
 use crate::refusal::refusal_in;
 use adder::price::Pricing;
-use curve::answer::Answer;
-use curve::curve_text::curves_of;
-use pricing::price::price;
+use curve_set::answer::Answer;
+use curve_values::curves_of;
+use pricing::price;
 
 // Whether a pricing was accepted.
 fn pricing_answer(pricing: Pricing) -> Answer

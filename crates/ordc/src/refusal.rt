@@ -1,7 +1,7 @@
 // How every function of the library answers.
 ghost use mathlib.Core.Path.{_≡_};
 ghost use Rattle.ordc.specs.Refusal.{refusalIn};
-use curve::answer::Answer;
+use curve_set::answer::Answer;
 
 // A refusal's number and line; both 0 where nothing was refused.
 #[repr(C)]

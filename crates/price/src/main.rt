@@ -1,7 +1,7 @@
 // Prices one snapshot on a curve text: standard input to standard output.
-use block::write::Written;
 use libc::STDIN_FILENO;
 use libc::STDOUT_FILENO;
+use writer::Written;
 
 fn main() {
     // One byte more than the most that is accepted, so that a longer input is seen as such.
@@ -12,5 +12,5 @@ fn main() {
     let Written::Ended { next } = written else {
         return;
     };
-    io::write_all(STDOUT_FILENO, text::line::part(&output, 0, next));
+    io::write_all(STDOUT_FILENO, line::part(&output, 0, next));
 }

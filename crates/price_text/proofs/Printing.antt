@@ -11,14 +11,15 @@ use lib.ListN.{length, take, drop, length-drop}
 use lib.Seq.{take-all}
 use Rattle.text.specs.Choice.{pick}
 use Rattle.text.specs.Bytes.{bytes}
-use Rattle.text.specs.Line.{part}
+use Rattle.line.specs.Line.{part}
 use Rattle.text.specs.declared.refusal.Refusal.{Refusal}
-use Rattle.block.specs.Output.{refusalLines}
-use Rattle.curve.specs.Curves.{curvesInRange, readCurves}
-use Rattle.curve.specs.declared.answer.Answer.{Answer}
-use Rattle.curve.specs.declared.answer.Answer.the-variants as answer
-use Rattle.curve.specs.declared.curves.Curves.{Curves}
-use Rattle.curve.specs.declared.curves.CurveSet.{CurveSet}
+use Rattle.writer.specs.Output.{refusalLines}
+use Rattle.curve_set.specs.Curves.{curvesInRange}
+use Rattle.curve.specs.CurveText.{readCurves}
+use Rattle.curve_set.specs.declared.answer.Answer.{Answer}
+use Rattle.curve_set.specs.declared.answer.Answer.the-variants as answer
+use Rattle.curve_set.specs.declared.Curves.{Curves}
+use Rattle.curve_set.specs.declared.CurveSet.{CurveSet}
 use Rattle.adder.specs.Price.{pricesOf, refusedPricing, valueOfReserve}
 use Rattle.adder.specs.declared.price.Prices.{Prices}
 use Rattle.adder.specs.declared.price.Pricing.{Pricing}
@@ -26,8 +27,9 @@ use Rattle.adder.specs.declared.price.Pricing.the-variants as pricing
 use Rattle.adder.proofs.Bounds.{curves-bound, header-bound, value-bound}
 use Rattle.adder.proofs.Order.{shortage-online-bound, shortage-offline-bound, offline-online-value}
 use Rattle.sums.specs.Sums.{sumsOf}
-use Rattle.pricing.specs.Snapshot.{SnapshotAnswer, read, turned-back, snapshotIn, resourcesOf, pricedSnapshot, priced}
-use Rattle.pricing.proofs.Readings.{snapshot-read, header-fault}
+use Rattle.snapshot.specs.Snapshot.{SnapshotAnswer, read, turned-back, snapshotIn, resourcesOf}
+use Rattle.pricing.specs.Pricing.{pricedSnapshot, priced}
+use Rattle.snapshot.proofs.Readings.{snapshot-read, header-fault}
 use Rattle.price_text.specs.Program.{beforeEmptyLine, curvePart, snapshotPart, SmallPrices, priceLines, onCurves, printedPrices, priceOutput}
 
 -- ---- the numbers of an accepted pricing are small

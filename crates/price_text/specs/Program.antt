@@ -9,16 +9,16 @@ use lib.ListN.{length, take, drop}
 use Rattle.text.specs.Choice.{pick}
 use Rattle.text.specs.Bytes.{bytes}
 use Rattle.block.specs.Block.{keysOf}
-use Rattle.block.specs.Write.{writtenNumbers}
-use Rattle.block.specs.Output.{refusalLines}
-use Rattle.curve.specs.Curves.{readCurves}
-use Rattle.curve.specs.declared.answer.Answer.{Answer}
-use Rattle.curve.specs.declared.answer.Answer.the-variants as answer
-use Rattle.curve.specs.declared.curves.CurveSet.{CurveSet}
+use Rattle.writer.specs.Write.{writtenNumbers}
+use Rattle.writer.specs.Output.{refusalLines}
+use Rattle.curve.specs.CurveText.{readCurves}
+use Rattle.curve_set.specs.declared.answer.Answer.{Answer}
+use Rattle.curve_set.specs.declared.answer.Answer.the-variants as answer
+use Rattle.curve_set.specs.declared.CurveSet.{CurveSet}
 use Rattle.adder.specs.declared.price.Prices.{Prices}
 use Rattle.adder.specs.declared.price.Pricing.{Pricing}
 use Rattle.adder.specs.declared.price.Pricing.the-variants as pricing
-use Rattle.pricing.specs.Snapshot.{priced}
+use Rattle.pricing.specs.Pricing.{priced}
 
 -- how many bytes stand before the first empty line, byte 10 at a line's start, or at all where there is none; `atStart` says whether a line starts here
 unfoldable pub beforeEmptyLine : Bool → List ℕ → ℕ

@@ -1,18 +1,18 @@
 // The program `price` as a function from input bytes to output bytes.
 ghost use mathlib.Core.Path.{_≡_};
 ghost use mathlib.Core.Bool.{true};
-ghost use Rattle.block.specs.Write.{TextWritten};
+ghost use Rattle.writer.specs.Write.{TextWritten};
 ghost use Rattle.price_text.specs.Program.{beforeEmptyLine, SmallPrices, priceValues, priceLines, priceOutput};
 use adder::price::Prices;
 use adder::price::Pricing;
-use block::write::Written;
-use block::write::output::write_refusal;
-use block::write::write_block;
-use curve::answer::Answer;
-use curve::curve_text::read_curves;
-use pricing::price::price;
-use text::line::part;
+use curve::read_curves;
+use curve_set::answer::Answer;
+use line::part;
+use pricing::price;
 use text::refusal::Refusal;
+use writer::Written;
+use writer::output::write_refusal;
+use writer::write_block;
 
 // Where the first empty line starts, or the input's end.
 fn empty_line(input: &[u8]) -> usize

@@ -9,22 +9,24 @@ use Rattle.normal.specs.Normal.{normal, upper, interpolated}
 use Rattle.text.specs.Bytes.{bytes}
 use Rattle.text.specs.Piece.{piecesFrom}
 use Rattle.text.specs.Refusal.{endedLines}
-use Rattle.text.specs.Line.{lineIn, lineLength, begins}
-use Rattle.value.specs.Number.{numberOf, allDigits, valueOf}
-use Rattle.value.specs.Word.{isWord, wordAmong}
-use Rattle.value.specs.Id.{isId, allIdBytes}
-use Rattle.value.specs.Field.{fieldAt}
+use Rattle.line.specs.Line.{lineIn, lineLength, begins}
+use Rattle.number.specs.Number.{numberOf, allDigits, valueOf}
+use Rattle.word.specs.Word.{isWord, wordAmong}
+use Rattle.id.specs.Id.{isId, allIdBytes}
+use Rattle.line.specs.Field.{fieldAt}
 use Rattle.block.specs.Block.{readFields}
 use Rattle.probability.specs.Probability.{onlineProbability, offlineProbability}
-use Rattle.curve.specs.Season.{seasonOf, blockOf, groupOf}
-use Rattle.curve.specs.Curves.{curvesInRange, pairsInRange}
+use Rattle.season.specs.Season.{seasonOf, blockOf, groupOf}
+use Rattle.curve_set.specs.Curves.{curvesInRange, pairsInRange}
 use Rattle.curve.specs.Known.{AllHold}
 use Rattle.adder.specs.Sums.{plus, headerFields}
 use Rattle.adder.specs.Reserve.{twiceLoads, twiceOnline, twiceAll, discounted, onlineReserve, totalReserve}
 use Rattle.adder.specs.Price.{valueOfReserve, rounded, shortageOnline, shortageOffline, pricesOf}
 use Rattle.resource.specs.Resource.{generatorFields, controllableFields, loadFields, resourceAt}
-use Rattle.sums.specs.Sums.{countedOnline, partOf, sumsOf}
-use Rattle.pricing.specs.Snapshot.{standsIn, sameBytes, resourcesAt, snapshotIn, priced}
+use Rattle.counted.specs.Counted.{countedOnline}
+use Rattle.sums.specs.Sums.{partOf, sumsOf}
+use Rattle.snapshot.specs.Snapshot.{standsIn, sameBytes, resourcesAt, snapshotIn}
+use Rattle.pricing.specs.Pricing.{priced}
 use Rattle.history.specs.Known.{knownSettling}
 use Rattle.history.proofs.KnownSettling.{known-settling}
 use Rattle.curve.proofs.KnownValues.{all-append}

@@ -5,11 +5,11 @@ use mathlib.Core.Bool.{Bool, true, false}
 use mathlib.Core.List.{List}
 use lib.Signed.{_≤ℤ_, ≤ℤ-refl}
 use Rattle.text.specs.Choice.{pick}
-use Rattle.curve.specs.Curves.{curvesInRange}
-use Rattle.history.specs.Settle.{settled}
-use Rattle.history.specs.Record.{fresh}
+use Rattle.curve_set.specs.Curves.{curvesInRange}
+use Rattle.record.specs.Settle.{settled}
+use Rattle.record.specs.Record.{fresh}
 use Rattle.history.specs.Promises.{bookedAll}
-use Rattle.curve.specs.declared.curves.CurveSet.{CurveSet}
+use Rattle.curve_set.specs.declared.CurveSet.{CurveSet}
 use Rattle.adder.specs.Price.{pairFor, pricesOf, refusedPricing}
 use Rattle.adder.specs.Promises.{CurvesLowered}
 use Rattle.adder.proofs.Order.{more-reserve-never-raises-prices, offline-online-value}
@@ -17,11 +17,12 @@ use Rattle.adder.specs.declared.sums.Header.{Header}
 use Rattle.adder.specs.declared.price.Prices.{Prices}
 use Rattle.adder.specs.declared.price.Pricing.the-variants as pricing
 use Rattle.sums.specs.Sums.{sumsOf}
-use Rattle.pricing.specs.Snapshot.{Entry, SnapshotAnswer, read, turned-back, snapshotIn, resourcesOf, pricedSnapshot, priced}
+use Rattle.snapshot.specs.Snapshot.{Entry, SnapshotAnswer, read, turned-back, snapshotIn, resourcesOf}
+use Rattle.pricing.specs.Pricing.{pricedSnapshot, priced}
 use Rattle.pricing.specs.Promises.{SnapshotRaised, snapshot-raised, NeitherPriceRises, RaisedReserveNeverRaisesPrices, RaisedReserveNeverRaisesPricesOnCurves, OfflineOnlineValueInOrder}
 use Rattle.pricing.proofs.Raised.{raised-sums}
 use Rattle.sums.proofs.Parts.{offline-nonneg}
-use Rattle.pricing.proofs.Readings.{HeaderInRange, snapshot-read}
+use Rattle.snapshot.proofs.Readings.{HeaderInRange, snapshot-read}
 use Rattle.pricing.proofs.Settling.{curves-lowered}
 
 -- the prices of an accepted pricing

@@ -10,8 +10,9 @@ use Rattle.text.specs.Choice.{pick}
 use Rattle.adder.specs.Sums.{plus}
 use Rattle.adder.specs.Promises.{SumsNotLower}
 use Rattle.adder.specs.declared.sums.Sums.{Sums}
-use Rattle.sums.specs.Sums.{countedOnline, countedOffline, partOf, sumsOf}
-use Rattle.pricing.specs.Snapshot.{Entry, resourcesOf}
+use Rattle.counted.specs.Counted.{countedOnline, countedOffline}
+use Rattle.sums.specs.Sums.{partOf, sumsOf}
+use Rattle.snapshot.specs.Snapshot.{Entry, resourcesOf}
 use Rattle.pricing.specs.Promises.{GeneratorRaised, ControllableRaised, LoadRaised, ResourceRaised, generator-raised, controllable-raised, load-raised, EntriesRaised, none-raised, one-raised}
 use Rattle.resource.specs.declared.Generator.{Generator}
 use Rattle.resource.specs.declared.Controllable.{Controllable}

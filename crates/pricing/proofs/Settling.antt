@@ -12,25 +12,26 @@ use lib.ListN.{length, getD, length-set}
 use lib.Signed.{_≤ℤ_}
 use Rattle.integer.proofs.Difference.{view, toℕ}
 use Rattle.text.specs.Choice.{pick}
-use Rattle.curve.specs.Season.{seasonOf, blockOf, groupOf}
+use Rattle.season.specs.Season.{seasonOf, blockOf, groupOf}
 use Rattle.hour.specs.Hour.{HourAnswer, read, refused, hourIn, hourGroup, errorOf}
-use Rattle.curve.specs.Answer.{refusal}
-use Rattle.history.specs.Record.{noHours, fresh, groupAt, meanOf, allPossible, withGroup, withError, kept, bookError, bookHour, booked}
-use Rattle.curve.specs.Curves.{vollInRange, floorInRange, refusedCurves}
-use Rattle.history.specs.Settle.{spreadOf, pairOf, settledGroups, settledSet, settled}
+use Rattle.curve_set.specs.Answer.{refusal}
+use Rattle.record.specs.Record.{noHours, fresh, groupAt, meanOf, allPossible, withGroup}
+use Rattle.history.specs.Booking.{withError, kept, bookError, bookHour, booked}
+use Rattle.curve_set.specs.Curves.{vollInRange, floorInRange, refusedCurves}
+use Rattle.record.specs.Settle.{spreadOf, pairOf, settledGroups, settledSet, settled}
 use Rattle.history.specs.Promises.{bookedAll, ListsLowered}
 use Rattle.history.proofs.Shift.{lowered-errors-lower-means}
-use Rattle.curve.specs.declared.answer.Answer.{Answer}
-use Rattle.curve.specs.declared.answer.Answer.the-variants as answer
-use Rattle.history.specs.declared.record.Group.{Group}
-use Rattle.history.specs.declared.record.Record.{Record}
-use Rattle.curve.specs.declared.curves.Pair.{Pair}
-use Rattle.curve.specs.declared.curves.CurveSet.{CurveSet}
-use Rattle.curve.specs.declared.curves.Curves.{Curves}
+use Rattle.curve_set.specs.declared.answer.Answer.{Answer}
+use Rattle.curve_set.specs.declared.answer.Answer.the-variants as answer
+use Rattle.record.specs.declared.Group.{Group}
+use Rattle.record.specs.declared.Record.{Record}
+use Rattle.curve_set.specs.declared.Pair.{Pair}
+use Rattle.curve_set.specs.declared.CurveSet.{CurveSet}
+use Rattle.curve_set.specs.declared.Curves.{Curves}
 use Rattle.adder.specs.Promises.{CurvesLowered}
 use Rattle.adder.specs.declared.sums.Header.{Header}
 use Rattle.resource.specs.Range.{Between}
-use Rattle.pricing.proofs.Readings.{HeaderInRange}
+use Rattle.snapshot.proofs.Readings.{HeaderInRange}
 
 -- ---- a record keeps its twenty-four groups
 

@@ -16,37 +16,40 @@ use Rattle.integer.specs.Quadratic.{quadratic}
 use Rattle.integer.specs.Root.{rootOf, rootIn, raised}
 use Rattle.text.specs.Choice.{pick}
 use Rattle.text.specs.Bytes.{bytes}
-use Rattle.text.specs.Line.{lineIn, lineLength, begins}
-use Rattle.value.specs.Number.{numberOf, allDigits, valueOf, writtenNumber, digitsWithin}
-use Rattle.value.specs.Field.{fieldAt}
+use Rattle.line.specs.Line.{lineIn, lineLength, begins}
+use Rattle.number.specs.Number.{numberOf, allDigits, valueOf, writtenNumber, digitsWithin}
+use Rattle.line.specs.Field.{fieldAt}
 use Rattle.block.specs.Block.{writeFields, readFields}
 use Rattle.text.specs.Piece.{piecesFrom}
-use Rattle.value.specs.Word.{isWord, wordAmong}
-use Rattle.value.specs.Id.{isId, allIdBytes}
-use Rattle.curve.specs.Season.{seasonOf, blockOf, groupOf}
+use Rattle.word.specs.Word.{isWord, wordAmong}
+use Rattle.id.specs.Id.{isId, allIdBytes}
+use Rattle.season.specs.Season.{seasonOf, blockOf, groupOf}
 use Rattle.block.specs.Block.{repeated}
 use Rattle.hour.specs.Hour.{HourAnswer, hourOf, read, hourFields, runFields, runsOf, hourIn, hourAhead, scedReserve, scedSum, errorOf}
-use Rattle.history.specs.Record.{fresh, allPossible, possible, meanOf, squaresAround, kept, bookError, bookHour, withError, booked}
-use Rattle.history.specs.Settle.{spreadOf, pairOf, settledGroups, settled}
+use Rattle.record.specs.Record.{fresh, allPossible, possible, meanOf, squaresAround}
+use Rattle.history.specs.Booking.{kept, bookError, bookHour, withError, booked}
+use Rattle.record.specs.Settle.{spreadOf, pairOf, settledGroups, settled}
 use Rattle.history.specs.Promises.{bookedAll, HourLowered, hour-lowered, both-accepted, ListsLowered}
-use Rattle.curve.specs.declared.answer.Answer.{Answer}
-use Rattle.curve.specs.declared.answer.Answer.the-variants as answer
-use Rattle.history.specs.declared.record.Booking.{Booking}
-use Rattle.history.specs.declared.record.Record.{Record}
-use Rattle.curve.specs.declared.curves.CurveSet.{CurveSet}
-use Rattle.curve.specs.Curves.{curvesInRange, pairsInRange}
+use Rattle.curve_set.specs.declared.answer.Answer.{Answer}
+use Rattle.curve_set.specs.declared.answer.Answer.the-variants as answer
+use Rattle.history.specs.declared.Booking.{Booking}
+use Rattle.record.specs.declared.Record.{Record}
+use Rattle.curve_set.specs.declared.CurveSet.{CurveSet}
+use Rattle.curve_set.specs.Curves.{curvesInRange, pairsInRange}
 use Rattle.probability.specs.Probability.{onlineProbability, offlineProbability}
 use Rattle.adder.specs.Sums.{plus, headerFields}
 use Rattle.adder.specs.Reserve.{twiceLoads, twiceOnline, twiceAll, discounted, onlineReserve, totalReserve}
 use Rattle.adder.specs.Price.{valueOfReserve, rounded, shortageOnline, shortageOffline, pricesOf}
 use Rattle.adder.specs.declared.price.Prices.{Prices}
 use Rattle.adder.specs.declared.price.Pricing.the-variants as pricing
-use Rattle.sums.specs.Sums.{countedOnline, partOf, sumsOf}
+use Rattle.counted.specs.Counted.{countedOnline}
+use Rattle.sums.specs.Sums.{partOf, sumsOf}
 use Rattle.pricing.specs.Promises.{ResourceRaised, generator-raised, one-raised, none-raised, SnapshotRaised, snapshot-raised}
 use Rattle.adder.specs.declared.sums.Header.{Header}
 use Rattle.resource.specs.Resource.{generatorFields, controllableFields, loadFields, resourceAt}
-use Rattle.pricing.specs.Snapshot.{Entry, standsIn, sameBytes, resourcesAt, snapshotIn, priced}
-use Rattle.pricing.specs.Snapshot as snapshot-in
+use Rattle.snapshot.specs.Snapshot.{Entry, standsIn, sameBytes, resourcesAt, snapshotIn}
+use Rattle.pricing.specs.Pricing.{priced}
+use Rattle.snapshot.specs.Snapshot as snapshot-in
 use Rattle.resource.specs.declared.Kind.{Kind}
 use Rattle.resource.specs.declared.Kind.the-variants as kind
 use Rattle.resource.specs.declared.Status.{Status}

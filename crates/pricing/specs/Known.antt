@@ -4,11 +4,11 @@ use mathlib.Core.List.{List, [], _∷_, _++_}
 use lib.IntN.{ℤ, pos, negsuc}
 use lib.ListN.{replicate}
 use Rattle.text.specs.Bytes.{bytes}
-use Rattle.curve.specs.declared.curves.CurveSet.{CurveSet}
+use Rattle.curve_set.specs.declared.CurveSet.{CurveSet}
 use Rattle.adder.specs.declared.price.Pricing.{Pricing}
 use Rattle.adder.specs.declared.price.Pricing.the-variants as pricing
 use Rattle.history.specs.Known.{knownSettling}
-use Rattle.pricing.specs.Snapshot.{priced}
+use Rattle.pricing.specs.Pricing.{priced}
 
 -- document 01's numbers for each case of a pricing: `rs rsns pis pins online offline`, or the refusal's number and its line
 abbrev pub printed : Pricing → List ℤ

@@ -1,5 +1,4 @@
--- Document 01, "Snapshot to reserves" and "The two prices": the snapshot text; pricing a snapshot; the statements of demand 3.
-pub mod Snapshot
-pub mod Ids
+-- Document 01, "Snapshot to reserves" and "The two prices": pricing a snapshot; the statements of demand 3.
+pub mod Pricing
 pub mod Known
 pub mod Promises

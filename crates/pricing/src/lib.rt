@@ -1,4 +1,24 @@
-// Pricing a snapshot: its text, the ids and sums of its resources, and the two prices.
-mod ids;
-pub mod price;
-mod snapshot;
+// The two prices of a snapshot on a curve set.
+ghost use mathlib.Core.Path.{_≡_};
+ghost use Rattle.pricing.specs.Pricing.{priced};
+use adder::price::Pricing;
+use adder::price::price_sums;
+use curve_set::CurveSet;
+use curve_set::curves_in_range;
+use snapshot::Snapshot;
+use snapshot::read_snapshot;
+use text::refusal::Refusal;
+
+// The prices of a snapshot's text, or why it is turned back: an impossible curve set comes first.
+pub fn price(curves: CurveSet, text: &[u8]) -> Pricing
+    ensures { λ r. ⌜ r ≡ priced curves (now (text .entry)) ⌝ }
+{
+    if !curves_in_range(curves) {
+        return Pricing::Refused(Refusal { number: 1, line: 0 });
+    }
+    let s = read_snapshot(text);
+    match s {
+        Snapshot::Refused(found) => Pricing::Refused(found),
+        Snapshot::Read { header, sums } => price_sums(curves, header, sums),
+    }
+}

@@ -4,16 +4,11 @@ ghost use Prim.Native.Nat.{_-_, _≤_};
 ghost use lib.IntN.{pos, natAbs, _-ℤ_, _*ℤ_};
 ghost use Rattle.normal.specs.Normal.{normal};
 ghost use Rattle.probability.specs.Probability.{onlineProbability, offlineProbability};
+use integer::wide;
 use normal::distribution;
 
 // A reserve above this makes the fraction at least 500 whatever X, the mean and the spread: nothing is left of one.
 const FAR: i64 = 1099511627776;
-
-fn wide(x: i32) -> i64
-    ensures { λ r. ⌜ (r ≡ x) × (natAbs r ≤ 2147483648) ⌝ }
-{
-    x as i64
-}
 
 // The numerator of piS, where the reserve is not far above X.
 fn online_numerator(reserve: i64, floor: i64, mean: i64) -> i64

@@ -1,21 +1,21 @@
 // Cases of booking an hour, and of settling a record. Each answers where the next case starts.
 use crate::expansion::text_at;
 use crate::groups::record_at;
-use crate::line::line_space;
-use crate::line::put_bytes;
-use crate::line::put_curves;
-use crate::line::put_record;
-use crate::line::put_refusal;
-use crate::line::show;
 use crate::number::number_at;
-use curve::answer::Answer;
-use curve::curves::Curves;
-use history::record::Booking;
-use history::record::Group;
-use history::record::Record;
-use history::record::book;
-use history::record::settle::settle;
-use text::line::part;
+use crate::output::line_space;
+use crate::output::put_bytes;
+use crate::output::put_curves;
+use crate::output::put_record;
+use crate::output::put_refusal;
+use crate::output::show;
+use curve_set::Curves;
+use curve_set::answer::Answer;
+use history::Booking;
+use history::book;
+use line::part;
+use record::Group;
+use record::Record;
+use record::settle::settle;
 
 fn is_same_group(one: Group, other: Group) -> bool {
     if one.count != other.count {

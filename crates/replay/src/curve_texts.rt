@@ -2,18 +2,18 @@
 use crate::booking::show_curves;
 use crate::expansion::text_at;
 use crate::groups::curves_at;
-use crate::line::line_space;
-use crate::line::put_bytes;
-use crate::line::put_count;
-use crate::line::put_refusal;
-use crate::line::show;
 use crate::number::count_at;
 use crate::number::wide;
-use curve::curve_text::read_curves;
-use curve::curve_text::write_curves;
-use curve::curves::CurveSet;
-use curve::curves::WrittenCurves;
-use text::line::part;
+use crate::output::line_space;
+use crate::output::put_bytes;
+use crate::output::put_count;
+use crate::output::put_refusal;
+use crate::output::show;
+use curve::WrittenCurves;
+use curve::read_curves;
+use curve::write_curves;
+use curve_set::CurveSet;
+use line::part;
 
 pub(crate) fn read_case(cases: &[u8], at: usize, text: &mut [u8]) -> usize {
     let expanded = text_at(cases, at, text);

@@ -1,7 +1,7 @@
 // Texts of the case file, laid out in a lent buffer: pieces, each a number of times, where `#` stands for the number of the repeat.
-use crate::line::put_byte;
 use crate::number::count_at;
-use text::line::part;
+use crate::output::put_byte;
+use line::part;
 
 // Where the text ends in the buffer, and where the next part starts in the file.
 pub struct Expanded {

@@ -1,10 +1,10 @@
 // Records and curve sets of the case file: 24 groups, of which equal ones in a row are given once after their number.
 use crate::number::count_at;
 use crate::number::number_at;
-use curve::curves::CurveSet;
-use curve::curves::Pair;
-use history::record::Group;
-use history::record::Record;
+use curve_set::CurveSet;
+use curve_set::Pair;
+use record::Group;
+use record::Record;
 
 // A record, and where the next part starts.
 pub struct StoredRecord {

@@ -3,8 +3,8 @@ mod booking;
 mod curve_texts;
 mod expansion;
 mod groups;
-mod line;
 mod number;
+mod output;
 mod prices;
 
 use booking::book_case;

@@ -1,16 +1,16 @@
 // Cases of pricing a snapshot. Each answers where the next case starts.
 use crate::expansion::text_at;
 use crate::groups::curves_at;
-use crate::line::line_space;
-use crate::line::put_bytes;
-use crate::line::put_count;
-use crate::line::put_number;
-use crate::line::put_refusal;
-use crate::line::show;
+use crate::output::line_space;
+use crate::output::put_bytes;
+use crate::output::put_count;
+use crate::output::put_number;
+use crate::output::put_refusal;
+use crate::output::show;
 use adder::price::Prices;
 use adder::price::Pricing;
-use pricing::price::price;
-use text::line::part;
+use line::part;
+use pricing::price;
 
 // Both reserves, both probabilities, both prices.
 fn put_prices(out: &mut [u8], at: usize, prices: Prices) -> usize {

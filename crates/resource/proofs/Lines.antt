@@ -8,14 +8,15 @@ use lib.Seq.{drop-length}
 use Rattle.text.specs.Bytes.{bytes}
 use Rattle.text.specs.Piece.{piecesFrom}
 use Rattle.text.specs.declared.refusal.Fault.{Fault}
-use Rattle.value.specs.Field.{Field, Answer, got, refused, fieldAt}
-use Rattle.value.specs.Word.{wordAnswer, wordFault}
-use Rattle.value.specs.declared.word.WordLine.{WordLine}
-use Rattle.value.specs.declared.word.WordLine.the-variants as word-line
+use Rattle.line.specs.Field.{Field, Answer, got, refused, fieldAt}
+use Rattle.word.specs.Word.{wordAnswer, wordFault}
+use Rattle.word.specs.declared.WordLine.{WordLine}
+use Rattle.word.specs.declared.WordLine.the-variants as word-line
 use Rattle.block.specs.Block.{andThen, readFields, numberFields, placedFields, BlockRead, blockFault}
-use Rattle.block.specs.declared.read.Block.{Block}
-use Rattle.block.specs.declared.read.Block.the-variants as block
-use Rattle.resource.specs.Resource.{generatorFields, controllableFields, loadFields, blockAs, afterAnswer}
+use Rattle.block.specs.declared.Block.{Block}
+use Rattle.block.specs.declared.Block.the-variants as block
+use Rattle.resource.specs.Resource.{generatorFields, controllableFields, loadFields, blockAs, ofBlock, afterAnswer}
+use Rattle.resource.proofs.Small.{EachSmall, AllSmall, values-small, laid-small}
 
 -- a block that was read has as many values as lines
 values-counted : {A : Type 0} (fields : List (Field A)) (text : List ℕ) (at : ℕ) {next : ℕ} → readFields fields text at .end ≡ block.Read next → length (readFields fields text at .values) ≡ length fields
@@ -69,10 +70,6 @@ module _
   pub block-ended : ended ≡ readFields fields text at .end
   block-ended = rw (← schema .same) (read .ends)
 
-  pub block-refused :
-      {A : Type 0} (make : List ℤ → A) {fault found : Fault} → ended ≡ block.Refused found → fault ≡ blockFault ended → refused fault ≡ blockAs make fields text at
-  block-refused make told is = rw (is, ← block-ended, told)
-
   -- its places hold the values
   pub block-filled : {next : ℕ} → ended ≡ block.Read next → after ≡ readFields fields text at .values
   block-filled told =
@@ -80,14 +77,28 @@ module _
       values-counted fields text at (sym block-ended ∙ told) ∙ sym (length-replicate (length fields) (pos 0)) in
       read .filled ∙ rw (schema .same, n, drop-length, append-nil)
 
-  pub block-read : {A : Type 0} (make : List ℤ → A) {next : ℕ} → ended ≡ block.Read next → got (make after) next ≡ blockAs make fields text at
-  block-read make told = rw (block-filled told, ← block-ended, told)
+  -- a resource made of its places, if its lines were read
+  pub block-made : {A : Type 0} (make : List ℤ → A) {one : A} → one ≡ make after → ofBlock (λ v. one) [] ended ≡ blockAs make fields text at
+  block-made {A} make {one} is = go ended refl
+    where
+      go : (b : Block) → ended ≡ b → ofBlock (λ v. one) [] b ≡ blockAs make fields text at
+      go (block.Read next) told = rw (is, block-filled told, ← block-ended, told)
+      go (block.Refused found) told = rw (← block-ended, told)
 
-  -- what holds of the values of a block that was read holds of its places
-  pub block-known :
-      (P : List ℤ → Type 0) → ((next : ℕ) → readFields fields text at .end ≡ block.Read next → P (readFields fields text at .values)) →
-      (next : ℕ) → ended ≡ block.Read next → P after
-  block-known P known next told = rw (block-filled told) (known next (sym block-ended ∙ told))
+  -- no place holds a number beyond the bound, whether or not a line was refused
+  pub block-small : EachSmall fields → AllSmall after
+  block-small small =
+      rw (read .filled, schema .same)
+      (laid-small (readFields fields text at .values) (length fields) (length (readFields fields text at .values)) (values-small fields small text at))
+
+-- ---- the lines of a resource, if they were read
+
+module _ {A : Type 0} (one : A) {b : Block} where
+  pub lines-refused : {fault found : Fault} → b ≡ block.Refused found → fault ≡ blockFault b → refused fault ≡ ofBlock (λ v. one) [] b
+  lines-refused told is = rw (is, told)
+
+  pub lines-read : {next : ℕ} → b ≡ block.Read next → got one next ≡ ofBlock (λ v. one) [] b
+  lines-read told = rw told
 
 -- ---- a word, and what follows it
 

@@ -1,35 +1,35 @@
 -- What reading gives is in range: each value of a block that was read lies within its field's bounds, so a header and resources that were read are in range,
 -- and there are as many resources as `count` says.
-use Prim.Native.Nat.{ℕ, zero, suc, _≤_, _<_}
+use Prim.Native.Nat.{ℕ, zero, suc, _<_}
 use native.Mathlib.Omega.{arith}
 use mathlib.Core.Path.{_≡_, refl, subst}
 use mathlib.Core.Bool.{Bool, true, false, _&&_}
 use mathlib.Core.List.{List, [], _∷_}
 use mathlib.Core.Option.{Option, none, some}
 use lib.Dec.{lit<}
-use lib.IntN.{ℤ, pos, negℤ, natAbs}
+use lib.IntN.{ℤ, pos, negℤ}
 use lib.ListN.{length, getD}
 use lib.Signed.{leZ}
 use Rattle.integer.proofs.Order.{leZ-true}
-use Rattle.integer.proofs.Difference.{view, toℕ}
 use Rattle.text.specs.Choice.{pick}
 use Rattle.text.specs.Bytes.{bytes}
-use Rattle.text.specs.Line.{part, lineAt, fault}
-use Rattle.value.specs.Number.{ranged, numberOf}
-use Rattle.value.specs.Field.{Judged, good, bad, Field, Answer, got, refused, judged, valueIn, fieldAt, judgedNumber, numberField}
+use Rattle.line.specs.Line.{part, lineAt, fault}
+use Rattle.number.specs.Number.{ranged, numberOf}
+use Rattle.line.specs.Field.{Judged, good, bad, Field, Answer, got, refused, judged, valueIn, fieldAt}
+use Rattle.number.specs.Field.{judgedNumber, numberField}
 use Rattle.block.specs.Block.{Reading, andThen, readFields}
-use Rattle.text.specs.declared.line.Line.{Line}
-use Rattle.text.specs.declared.line.Line.the-variants as line
-use Rattle.value.specs.declared.number.Number.the-variants as number
-use Rattle.block.specs.declared.read.Block.{Block}
-use Rattle.block.specs.declared.read.Block.the-variants as block
+use Rattle.line.specs.declared.Line.{Line}
+use Rattle.line.specs.declared.Line.the-variants as line
+use Rattle.number.specs.declared.Number.the-variants as number
+use Rattle.block.specs.declared.Block.{Block}
+use Rattle.block.specs.declared.Block.the-variants as block
 use Rattle.block.specs.Block.{value}
 use Rattle.resource.specs.Resource.{kindField, statusField, statusOf, generatorFields, controllableFields, loadFields, generatorOf, controllableOf, loadOf, afterAnswer, ofBlock, blockAs, generatorAt, ofKind, resourceAt}
 use Rattle.resource.specs.declared.Kind.{Kind}
 use Rattle.resource.specs.declared.Kind.the-variants as kind
 use Rattle.resource.specs.declared.Status.{Status}
 use Rattle.resource.specs.declared.Resource.{Resource}
-use Rattle.resource.specs.Range.{Between, Power, ResourceInRange}
+use Rattle.resource.specs.Range.{Between, ResourceInRange}
 
 -- ---- one line
 
@@ -168,14 +168,3 @@ unfolding resourceAt
 resource-read text at e =
     let f = followed (fieldAt kindField text at) (λ k next. ofKind text k next) e in
     of-kind text (f .one) (f .after) (f .then)
-
--- ---- numbers in range are small
-
-pub power-small : {z : ℤ} → Power z → natAbs z ≤ 2000000
-power-small {z} = rw (view z) (simp toℕ (omega arith))
-
-pub net-small : {z : ℤ} → Between (negℤ (pos 2000000)) (pos 2000000) z → natAbs z ≤ 2000000
-net-small {z} = rw (view z) (simp toℕ (omega arith))
-
-pub flag-small : {z : ℤ} → Between (pos 0) (pos 1) z → natAbs z ≤ 2000000
-flag-small {z} = rw (view z) (simp toℕ (omega arith))

@@ -3,13 +3,14 @@ use Prim.Native.Nat.{ℕ, zero, suc}
 use mathlib.Core.List.{List, [], _∷_}
 use lib.IntN.{ℤ, pos, negℤ}
 use Rattle.text.specs.Bytes.{bytes}
-use Rattle.text.specs.Line.{fault}
+use Rattle.line.specs.Line.{fault}
 use Rattle.text.specs.declared.refusal.Fault.{Fault}
-use Rattle.value.specs.Field.{Field, Answer, got, refused, numberField, fieldAt}
+use Rattle.line.specs.Field.{Field, Answer, got, refused, fieldAt}
+use Rattle.number.specs.Field.{numberField}
 use Rattle.block.specs.Block.{readFields}
-use Rattle.value.specs.Word.{wordField}
-use Rattle.block.specs.declared.read.Block.{Block}
-use Rattle.block.specs.declared.read.Block.the-variants as block
+use Rattle.word.specs.Word.{wordField}
+use Rattle.block.specs.declared.Block.{Block}
+use Rattle.block.specs.declared.Block.the-variants as block
 use Rattle.block.specs.Block.{value}
 use Rattle.resource.specs.declared.Kind.{Kind}
 use Rattle.resource.specs.declared.Kind.the-variants as kind

@@ -1,20 +1,17 @@
 // One resource of a snapshot: its kind and its fields.
+mod kinds;
 mod made;
 
 ghost use mathlib.Core.Path.{_≡_};
-ghost use Rattle.resource.specs.Resource.{controllableOf, loadOf, generatorAt, blockAs, controllableFields, loadFields, resourceAt, linesAnswer};
-use crate::made::controllable_of;
-use crate::made::generator_of;
+ghost use Rattle.resource.specs.Resource.{ofKind, resourceAt, linesAnswer};
+use crate::kinds::controllable_at;
+use crate::kinds::generator_at;
+use crate::kinds::load_at;
 use crate::made::kind_of;
-use crate::made::load_of;
-use crate::made::status_of;
-use block::read::Block;
-use block::read::block_fault;
-use block::read::read_block;
 use text::refusal::Fault;
-use value::word::WordLine;
-use value::word::word_at;
-use value::word::word_fault;
+use word::WordLine;
+use word::word_at;
+use word::word_fault;
 
 // The kinds of generator: other intermittent units are Irr.
 pub enum Kind {
@@ -74,71 +71,17 @@ pub enum ResourceLines {
     Refused(Fault),
 }
 
-// The lines of a generator after its kind.
-fn generator_at(text: &[u8], at: usize, kind: Kind) -> ResourceLines
-    ensures { λ r. ⌜ linesAnswer r ≡ generatorAt kind (now (text .entry)) at ⌝ }
+// The lines of a resource after its kind.
+fn of_kind(text: &[u8], index: usize, at: usize) -> ResourceLines
+    ensures { λ r. ⌜ linesAnswer r ≡ ofKind (now (text .entry)) index at ⌝ }
 {
-    let w = word_at(
-        text,
-        at,
-        b"status=",
-        b"ON\nOFF\nOFFNS\nONTEST\nSTARTUP\nSHUTDOWN\nOUT\n",
-    );
-    let WordLine::Index { index, next } = w else {
-        return ResourceLines::Refused(word_fault(w));
-    };
-    let lows = [-2000000, 0, 0, 0, 0, 0];
-    let highs = [2000000, 2000000, 2000000, 2000000, 2000000, 1];
-    let mut v = [0i64; 6];
-    let b = read_block(
-        text,
-        next,
-        b"net=lsl=hsl=base=nonspin=cold30=",
-        &lows,
-        &highs,
-        &mut v,
-    );
-    let Block::Read { next: after } = b else {
-        return ResourceLines::Refused(block_fault(b));
-    };
-    ResourceLines::Read {
-        resource: generator_of(kind, status_of(index), v),
-        next: after,
+    if index < 4 {
+        return generator_at(text, at, kind_of(index));
     }
-}
-
-// The lines of a controllable load after its kind.
-fn controllable_at(text: &[u8], at: usize) -> ResourceLines
-    ensures { λ r. ⌜ linesAnswer r ≡ blockAs controllableOf controllableFields (now (text .entry)) at ⌝ }
-{
-    let lows = [0i64; 4];
-    let highs = [2000000i64; 4];
-    let mut v = [0i64; 4];
-    let b = read_block(text, at, b"base=lpc=nonspin=regup=", &lows, &highs, &mut v);
-    let Block::Read { next } = b else {
-        return ResourceLines::Refused(block_fault(b));
-    };
-    ResourceLines::Read {
-        resource: controllable_of(v),
-        next,
+    if index == 4 {
+        return controllable_at(text, at);
     }
-}
-
-// The lines of another load after its kind.
-fn load_at(text: &[u8], at: usize) -> ResourceLines
-    ensures { λ r. ⌜ linesAnswer r ≡ blockAs loadOf loadFields (now (text .entry)) at ⌝ }
-{
-    let lows = [0i64; 4];
-    let highs = [1, 2000000, 2000000, 2000000];
-    let mut v = [0i64; 4];
-    let b = read_block(text, at, b"rrsok=net=lpc=rrs=", &lows, &highs, &mut v);
-    let Block::Read { next } = b else {
-        return ResourceLines::Refused(block_fault(b));
-    };
-    ResourceLines::Read {
-        resource: load_of(v),
-        next,
-    }
+    load_at(text, at)
 }
 
 // The lines of one resource after its id.
@@ -149,11 +92,5 @@ pub fn resource_at(text: &[u8], at: usize) -> ResourceLines
     let WordLine::Index { index, next } = w else {
         return ResourceLines::Refused(word_fault(w));
     };
-    if index < 4 {
-        return generator_at(text, next, kind_of(index));
-    }
-    if index == 4 {
-        return controllable_at(text, next);
-    }
-    load_at(text, next)
+    of_kind(text, index, next)
 }

@@ -1,8 +1,9 @@
 // A resource made of its words, by their place in the list, and of its values.
 ghost use mathlib.Core.Path.{_≡_};
-ghost use Prim.Native.Nat.{_≤_};
+ghost use Prim.Native.Nat.{ℕ, _≤_, _<_};
 ghost use lib.IntN.{natAbs};
-ghost use Rattle.resource.specs.Range.{ResourceInRange};
+ghost use lib.ListN.{length};
+ghost use Rattle.block.specs.Block.{value};
 ghost use Rattle.resource.specs.Resource.{kindOf, statusOf, generatorOf, controllableOf, loadOf};
 use crate::Controllable;
 use crate::Generator;
@@ -11,12 +12,12 @@ use crate::Load;
 use crate::Resource;
 use crate::Status;
 
-// A number of a resource in half the width.
-fn narrow(z: i64) -> i32
-    requires { ⌜ natAbs z ≤ 2000000 ⌝ }
-    ensures { λ r. ⌜ r ≡ z ⌝ }
+// One of the numbers read, by its place, in half the width.
+fn number(v: &[i64], place: usize) -> i32
+    requires { ⌜ (place < length (now v)) × natAbs (value (now v) place) ≤ 2000000 ⌝ }
+    ensures { λ r. ⌜ r ≡ value (now (v .entry)) place ⌝ }
 {
-    z as i32
+    v[place] as i32
 }
 
 // A kind and a status by their place in the list of words.
@@ -46,42 +47,42 @@ pub(crate) fn status_of(index: usize) -> Status
 }
 
 // A resource of each kind by its values.
-pub(crate) fn generator_of(kind: Kind, status: Status, v: [i64; 6]) -> Resource
-    requires { ⌜ ResourceInRange (generatorOf kind status v) ⌝ }
-    ensures { λ r. ⌜ r ≡ generatorOf kind status v ⌝ }
+pub(crate) fn generator_of(kind: Kind, status: Status, v: &[i64]) -> Resource
+    requires { ⌜ (length (now v) ≡ 6) × ((place : ℕ) → natAbs (value (now v) place) ≤ 2000000) ⌝ }
+    ensures { λ r. ⌜ r ≡ generatorOf kind status (now (v .entry)) ⌝ }
 {
     Resource::Generator(Generator {
         kind,
         status,
-        net: narrow(v[0]),
-        lsl: narrow(v[1]),
-        hsl: narrow(v[2]),
-        base: narrow(v[3]),
-        nonspin: narrow(v[4]),
-        cold30: narrow(v[5]),
+        net: number(v, 0),
+        lsl: number(v, 1),
+        hsl: number(v, 2),
+        base: number(v, 3),
+        nonspin: number(v, 4),
+        cold30: number(v, 5),
     })
 }
 
-pub(crate) fn controllable_of(v: [i64; 4]) -> Resource
-    requires { ⌜ ResourceInRange (controllableOf v) ⌝ }
-    ensures { λ r. ⌜ r ≡ controllableOf v ⌝ }
+pub(crate) fn controllable_of(v: &[i64]) -> Resource
+    requires { ⌜ (length (now v) ≡ 4) × ((place : ℕ) → natAbs (value (now v) place) ≤ 2000000) ⌝ }
+    ensures { λ r. ⌜ r ≡ controllableOf (now (v .entry)) ⌝ }
 {
     Resource::Controllable(Controllable {
-        base: narrow(v[0]),
-        lpc: narrow(v[1]),
-        nonspin: narrow(v[2]),
-        regup: narrow(v[3]),
+        base: number(v, 0),
+        lpc: number(v, 1),
+        nonspin: number(v, 2),
+        regup: number(v, 3),
     })
 }
 
-pub(crate) fn load_of(v: [i64; 4]) -> Resource
-    requires { ⌜ ResourceInRange (loadOf v) ⌝ }
-    ensures { λ r. ⌜ r ≡ loadOf v ⌝ }
+pub(crate) fn load_of(v: &[i64]) -> Resource
+    requires { ⌜ (length (now v) ≡ 4) × ((place : ℕ) → natAbs (value (now v) place) ≤ 2000000) ⌝ }
+    ensures { λ r. ⌜ r ≡ loadOf (now (v .entry)) ⌝ }
 {
     Resource::Load(Load {
-        rrsok: narrow(v[0]),
-        net: narrow(v[1]),
-        lpc: narrow(v[2]),
-        rrs: narrow(v[3]),
+        rrsok: number(v, 0),
+        net: number(v, 1),
+        lpc: number(v, 2),
+        rrs: number(v, 3),
     })
 }

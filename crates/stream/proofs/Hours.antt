@@ -12,11 +12,12 @@ use Rattle.text.specs.Choice.{pick}
 use Rattle.text.specs.Bytes.{bytes}
 use Rattle.text.specs.declared.refusal.Refusal.{Refusal}
 use Rattle.hour.specs.Hour.{refused, hourIn}
-use Rattle.history.specs.Record.{allPossible, kept, bookHour, booked}
-use Rattle.curve.specs.declared.answer.Answer.{Answer}
-use Rattle.curve.specs.declared.answer.Answer.the-variants as answer
-use Rattle.history.specs.declared.record.Record.{Record}
-use Rattle.block.specs.Output.{refusalLines}
+use Rattle.record.specs.Record.{allPossible}
+use Rattle.history.specs.Booking.{kept, bookHour, booked}
+use Rattle.curve_set.specs.declared.answer.Answer.{Answer}
+use Rattle.curve_set.specs.declared.answer.Answer.the-variants as answer
+use Rattle.record.specs.declared.Record.{Record}
+use Rattle.writer.specs.Output.{refusalLines}
 use Rattle.stream.specs.Program.{endsHour, lastHour, hoursFrom, hoursBooked}
 use Rattle.stream.specs.Stream.{State, hourTaken, hourTooLong, fed, fedAll, finished}
 use Rattle.stream.specs.declared.Stage.the-variants as stage

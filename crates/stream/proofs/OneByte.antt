@@ -12,11 +12,11 @@ use lib.IntN.{ℤ}
 use lib.ListN.{length, take, set, length-append}
 use lib.Seq.{length-take-le, set-out, take-suc-set}
 use Rattle.text.specs.Choice.{pick}
-use Rattle.value.specs.Field.{Field, Answer, got, refused, fieldAt}
-use Rattle.history.specs.Record.{booked}
-use Rattle.curve.specs.declared.answer.Answer as declared-answer
-use Rattle.curve.specs.declared.answer.Answer.the-variants as answer
-use Rattle.history.specs.declared.record.Record.{Record}
+use Rattle.line.specs.Field.{Field, Answer, got, refused, fieldAt}
+use Rattle.history.specs.Booking.{booked}
+use Rattle.curve_set.specs.declared.answer.Answer as declared-answer
+use Rattle.curve_set.specs.declared.answer.Answer.the-variants as answer
+use Rattle.record.specs.declared.Record.{Record}
 use Rattle.stream.specs.Program.{vollField, floorField, endsHour}
 use Rattle.stream.specs.Stream.{State, stateOf, streamOf, atStage, refusedSettle, vollTaken, floorTaken, lineByte, hourByte, hourTaken, hourTooLong, fed, fedAll, bufferFed, bufferFedAll, Ready, Fed}
 use Rattle.stream.specs.declared.Stage.{Stage}

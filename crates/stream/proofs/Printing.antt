@@ -11,24 +11,25 @@ use lib.IntN.{ℤ}
 use lib.ListN.{length, length-map}
 use Rattle.text.specs.Choice.{pick}
 use Rattle.text.specs.declared.refusal.Refusal.{Refusal}
-use Rattle.value.specs.Number.{digitsOf}
+use Rattle.number.specs.Number.{digitsOf}
 use Rattle.block.specs.Block.{laidOver}
-use Rattle.block.specs.Write.{laidAt, TextWritten}
-use Rattle.block.specs.Output.{refusalLines}
-use Rattle.block.specs.declared.write.Written.{Written}
-use Rattle.block.specs.declared.write.Written.the-variants as written
-use Rattle.block.proofs.Refused.{twenty-digits, refusal-length}
-use Rattle.curve.specs.Answer.{refusal}
-use Rattle.curve.specs.Curves.{vollInRange, floorInRange, curvesInRange, refusedCurves, curveText, writingCurves, writtenBuffer, CurvesWritten}
-use Rattle.curve.specs.declared.answer.Answer.{Answer}
-use Rattle.curve.specs.declared.answer.Answer.the-variants as answer
-use Rattle.curve.specs.declared.curves.WrittenCurves.{WrittenCurves}
-use Rattle.curve.specs.declared.curves.WrittenCurves.the-variants as written-curves
+use Rattle.writer.specs.Write.{laidAt, TextWritten}
+use Rattle.writer.specs.Output.{refusalLines}
+use Rattle.writer.specs.declared.Written.{Written}
+use Rattle.writer.specs.declared.Written.the-variants as written
+use Rattle.writer.proofs.Refused.{twenty-digits, refusal-length}
+use Rattle.curve_set.specs.Answer.{refusal}
+use Rattle.curve_set.specs.Curves.{vollInRange, floorInRange, curvesInRange, refusedCurves}
+use Rattle.curve.specs.CurveText.{curveText, writingCurves, writtenBuffer, CurvesWritten}
+use Rattle.curve_set.specs.declared.answer.Answer.{Answer}
+use Rattle.curve_set.specs.declared.answer.Answer.the-variants as answer
+use Rattle.curve.specs.declared.WrittenCurves.{WrittenCurves}
+use Rattle.curve.specs.declared.WrittenCurves.the-variants as written-curves
 use Rattle.curve.proofs.CurveRoundTrip.{curve-text-is-short}
-use Rattle.history.specs.Record.{allPossible}
-use Rattle.history.specs.Settle.{pairOf, settledGroups, settledSet, settled}
-use Rattle.history.specs.declared.record.Record.{Record}
-use Rattle.history.proofs.Range.{settled-in-range}
+use Rattle.record.specs.Record.{allPossible}
+use Rattle.record.specs.Settle.{pairOf, settledGroups, settledSet, settled}
+use Rattle.record.specs.declared.Record.{Record}
+use Rattle.record.proofs.Range.{settled-in-range}
 use Rattle.stream.specs.Program.{lastHour, settledText}
 use Rattle.stream.specs.Stream.{Printed}
 

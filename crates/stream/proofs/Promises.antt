@@ -5,9 +5,9 @@ use mathlib.Core.List.{List, [], _∷_}
 use native.Mathlib.Omega.{arith}
 use lib.IntN.{ℤ, pos}
 use lib.ListN.{drop}
-use Rattle.value.specs.Field.{Answer, got, refused}
-use Rattle.text.specs.Line.{lineLength}
-use Rattle.history.specs.Record.{fresh}
+use Rattle.line.specs.Field.{Answer, got, refused}
+use Rattle.line.specs.Line.{lineLength}
+use Rattle.record.specs.Record.{fresh}
 use Rattle.stream.specs.Program.{vollField, floorField, settleLine, afterVoll, afterFloor, curvesOutput}
 use Rattle.stream.specs.Stream.{State, start, vollTaken, floorTaken, fed, fedAll, finished}
 use Rattle.stream.specs.Promises.{StreamIsTheProgram}

@@ -11,9 +11,9 @@ use lib.IntN.{ℤ}
 use lib.ListN.{length, take, drop, length-append, length-drop}
 use lib.Seq.{take-all, take-at, append-snoc, take-append-seam, take-append-add, take-append-le, drop-append-le, drop-append-add}
 use Rattle.text.specs.Choice.{pick}
-use Rattle.text.specs.Line.{lineLength, begins, part, fault, lineIn}
-use Rattle.value.specs.Field.{Field, Judged, good, bad, Answer, got, refused, judged, valueIn, fieldAt}
-use Rattle.text.specs.declared.line.Line.the-variants as found
+use Rattle.line.specs.Line.{lineLength, begins, part, fault, lineIn}
+use Rattle.line.specs.Field.{Field, Judged, good, bad, Answer, got, refused, judged, valueIn, fieldAt}
+use Rattle.line.specs.declared.Line.the-variants as found
 use Rattle.text.specs.declared.refusal.Fault.{Fault}
 use Rattle.stream.specs.Program.{settleRefused}
 use Rattle.stream.specs.Stream.{State, refusedSettle, fed, fedAll, finished}

@@ -8,19 +8,21 @@ use lib.IntN.{ℤ, pos}
 use lib.ListN.{length, take, drop}
 use Rattle.text.specs.Choice.{pick}
 use Rattle.text.specs.Bytes.{bytes}
-use Rattle.value.specs.Field.{Field, Answer, got, refused, numberField, fieldAt}
+use Rattle.line.specs.Field.{Field, Answer, got, refused, fieldAt}
+use Rattle.number.specs.Field.{numberField}
 use Rattle.text.specs.declared.refusal.Fault.{Fault}
 use Rattle.text.specs.declared.refusal.Refusal.{Refusal}
-use Rattle.history.specs.Record.{fresh, booked}
-use Rattle.history.specs.Settle.{settled}
-use Rattle.curve.specs.Curves.{curveText}
-use Rattle.curve.specs.declared.answer.Answer as declared-answer
-use Rattle.curve.specs.declared.answer.Answer.the-variants as answer
-use Rattle.history.specs.declared.record.Record.{Record}
-use Rattle.history.specs.declared.record.Booking.{Booking}
-use Rattle.curve.specs.declared.curves.Curves.{Curves}
-use Rattle.curve.specs.declared.curves.CurveSet.{CurveSet}
-use Rattle.block.specs.Output.{refusalLines}
+use Rattle.record.specs.Record.{fresh}
+use Rattle.history.specs.Booking.{booked}
+use Rattle.record.specs.Settle.{settled}
+use Rattle.curve.specs.CurveText.{curveText}
+use Rattle.curve_set.specs.declared.answer.Answer as declared-answer
+use Rattle.curve_set.specs.declared.answer.Answer.the-variants as answer
+use Rattle.record.specs.declared.Record.{Record}
+use Rattle.history.specs.declared.Booking.{Booking}
+use Rattle.curve_set.specs.declared.Curves.{Curves}
+use Rattle.curve_set.specs.declared.CurveSet.{CurveSet}
+use Rattle.writer.specs.Output.{refusalLines}
 
 abbrev pub vollField : Field ℤ
 vollField = numberField (bytes "voll=") (pos 0) (pos 2000000)

@@ -8,15 +8,16 @@ use lib.IntN.{ℤ, pos}
 use lib.ListN.{length, take, drop, set}
 use Rattle.text.specs.Choice.{pick}
 use Rattle.text.specs.Bytes.{bytes}
-use Rattle.value.specs.Field.{Field, Answer, got, refused, fieldAt}
+use Rattle.line.specs.Field.{Field, Answer, got, refused, fieldAt}
 use Rattle.block.specs.Block.{laidOver}
 use Rattle.text.specs.declared.refusal.Refusal.{Refusal}
-use Rattle.history.specs.Record.{fresh, allPossible, booked}
-use Rattle.curve.specs.declared.answer.Answer as declared-answer
-use Rattle.curve.specs.declared.answer.Answer.the-variants as answer
-use Rattle.history.specs.declared.record.Record.{Record}
-use Rattle.history.specs.declared.record.Booking.{Booking}
-use Rattle.block.specs.Output.{refusalLines}
+use Rattle.record.specs.Record.{fresh, allPossible}
+use Rattle.history.specs.Booking.{booked}
+use Rattle.curve_set.specs.declared.answer.Answer as declared-answer
+use Rattle.curve_set.specs.declared.answer.Answer.the-variants as answer
+use Rattle.record.specs.declared.Record.{Record}
+use Rattle.history.specs.declared.Booking.{Booking}
+use Rattle.writer.specs.Output.{refusalLines}
 use Rattle.stream.specs.Program.{vollField, floorField, endsHour, lastHour, settleRefused, hoursBooked}
 use Rattle.stream.specs.declared.Stage.{Stage}
 use Rattle.stream.specs.declared.Stage.the-variants as stage

@@ -1,16 +1,9 @@
 // The program `curves` as a library step: input in parts of any size, in constant memory.
 ghost use mathlib.Core.Path.{_≡_};
-ghost use Rattle.stream.specs.Stream.{start, streamOf};
-use history::record::Record;
-use history::record::fresh;
+ghost use Rattle.stream.specs.Stream.{start, streamOf, isRefused};
+use record::Record;
+use record::fresh;
 use text::refusal::Refusal;
-
-mod output;
-mod taken;
-
-pub use output::finish;
-pub use taken::byte::feed::feed;
-pub use taken::byte::feed::is_refused;
 
 // What the stream waits for, or why it ended.
 pub enum Stage {
@@ -43,5 +36,18 @@ pub fn start() -> Stream
         floor: 0,
         history,
         held: 0,
+    }
+}
+
+// Whether the stream is refused, so that nothing more is read.
+pub fn is_refused(stage: Stage) -> bool
+    ensures { λ r. ⌜ r ≡ isRefused stage ⌝ }
+{
+    match stage {
+        Stage::Voll => false,
+        Stage::Floor => false,
+        Stage::Hours => false,
+        Stage::RefusedHour(_) => true,
+        Stage::RefusedSettle(_) => true,
     }
 }

@@ -15,10 +15,11 @@ use mir.Val.{SFits}
 use Rattle.integer.proofs.Difference.{view, toℕ}
 use Rattle.integer.proofs.Order.{le-leZ}
 use Rattle.text.specs.Choice.{pick}
-use Rattle.curve.specs.Curves.{within}
+use Rattle.curve_set.specs.Curves.{within}
 use Rattle.adder.specs.Sums.{noSums, plus, sumsPossible}
 use Rattle.adder.specs.declared.sums.Sums.{Sums}
-use Rattle.sums.specs.Sums.{countedOnline, countedOffline, partOf, sumsOf}
+use Rattle.counted.specs.Counted.{countedOnline, countedOffline}
+use Rattle.sums.specs.Sums.{partOf, sumsOf}
 use Rattle.sums.specs.Range.{Times, SumsWithin}
 use Rattle.resource.specs.Range.{Between, Power, ResourceInRange}
 use Rattle.resource.specs.declared.Generator.{Generator}

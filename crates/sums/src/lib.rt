@@ -1,14 +1,12 @@
 // What each resource adds to the sums before the factor.
-mod counted;
-
 ghost use mathlib.Core.Path.{_≡_};
 ghost use Prim.Native.Nat.{_≤_};
 ghost use lib.IntN.{natAbs, _-ℤ_};
 ghost use Rattle.sums.specs.Sums.{partOf};
-use crate::counted::counted_offline;
-use crate::counted::counted_online;
-use crate::counted::wide;
 use adder::sums::Sums;
+use counted::counted_offline;
+use counted::counted_online;
+use integer::wide;
 use resource::Controllable;
 use resource::Generator;
 use resource::Load;

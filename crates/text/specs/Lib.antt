@@ -1,6 +1,5 @@
--- Document 01, "Texts", and the refusals of a line.
+-- Refusals, byte strings and their pieces; a choice by a test.
 pub mod Choice
 pub mod Bytes
 pub mod Refusal
-pub mod Line
 pub mod Piece

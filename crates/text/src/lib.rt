@@ -1,4 +1,3 @@
-// Texts of lines `key=value`, each ended by byte 10: lines, their values as parts of the caller's text, and refusals.
-pub mod line;
+// Refusals, and pieces of byte strings, each ended by a mark.
 pub mod piece;
 pub mod refusal;

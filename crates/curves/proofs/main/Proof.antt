@@ -10,7 +10,7 @@ use Rattle.curves.proofs.print.Reads as print-reads
 use Rattle.curves.proofs.read.Reads as read-reads
 use Rattle.io.proofs.large_buffer.Reads as large-buffer-reads
 use Rattle.stream.proofs.is_refused.Reads as is-refused-reads
-use Rattle.stream.proofs.finish.Reads as finish-reads
+use Rattle.stream_output.proofs.finish.Reads as finish-reads
 use Rattle.stream.proofs.start.Reads as start-reads
 
 abbrev Inv-loop : tie.InvT-loop

@@ -3,10 +3,10 @@ ghost use mathlib.Core.Path.{_≡_};
 ghost use Rattle.ordc.specs.CurveText.{writingAnswer, writtenLength, CurvesWritten};
 use crate::refusal::Refusal;
 use crate::refusal::refusal_in;
-use curve::answer::Answer;
-use curve::curve_text::curves_of;
-use curve::curve_text::write_curves;
-use curve::curves::WrittenCurves;
+use curve::WrittenCurves;
+use curve::write_curves;
+use curve_set::answer::Answer;
+use curve_values::curves_of;
 
 // Whether a writing that ended was accepted.
 fn writing_answer(ended: WrittenCurves) -> Answer

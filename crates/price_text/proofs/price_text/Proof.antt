@@ -4,8 +4,8 @@ use borrow.Author.Needs.{needs}
 use mathlib.Core.Path.{_≡_, ap, _∙_}
 use mathlib.Core.Bool.{true}
 use Rattle.text.specs.Bytes.{bytes}
-use Rattle.curve.specs.Curves.{readCurves}
-use Rattle.pricing.specs.Snapshot.{priced}
+use Rattle.curve.specs.CurveText.{readCurves}
+use Rattle.pricing.specs.Pricing.{priced}
 use Rattle.price_text.proofs.EmptyLine.{empty-line-within}
 use Rattle.price_text.proofs.Printing.{accepted-small, too-long, curves-refused, snapshot-refused, snapshot-priced}
 use Rattle.price_text.proofs.price_text.Statement.{statement}

@@ -4,7 +4,7 @@ use native.Mathlib.Omega.{arith}
 use borrow.Author.Needs.{sfits-of}
 use lib.IntN.{natAbs}
 use mir.Facts.{toZ-ofZ}
-use Rattle.curve.specs.Season.{groupOf, seasonOf, blockOf}
+use Rattle.season.specs.Season.{groupOf, seasonOf, blockOf}
 use Rattle.adder.proofs.Bounds.{header-bound}
 use Rattle.adder.proofs.price.pair_for.Statement.{statement}
 use Rattle.adder.proofs.price.pair_for.Tie as tie

@@ -1,7 +1,7 @@
 use mathlib.Core.Path.{_≡_, sym, _∙_}
 use mathlib.Core.Bool.{true}
 use borrow.Author.Tests.{not-true, not-false, ne-eqb}
-use Rattle.curve.specs.Curves.{curvesInRange}
+use Rattle.curve_set.specs.Curves.{curvesInRange}
 use Rattle.adder.specs.Sums.{sumsPossible}
 use Rattle.adder.specs.Price.{sumsPriced}
 use Rattle.adder.proofs.price.price_sums.Statement.{statement}

@@ -1,8 +1,9 @@
 -- The calls chain to the reading; the curve set is laid where the number is 0.
 use mathlib.Core.Path.{_≡_, ap, _∙_}
 use denote.Ref.{now}
-use Rattle.curve.specs.Curves.{curveValues, readCurves}
-use Rattle.curve.specs.declared.curves.Curves.{Curves}
+use Rattle.curve_values.specs.CurveValues.{curveValues}
+use Rattle.curve.specs.CurveText.{readCurves}
+use Rattle.curve_set.specs.declared.Curves.{Curves}
 use Rattle.ordc.specs.Refusal.{refusalIn}
 use Rattle.ordc.proofs.Answered.{lent-laid, lent-left}
 use Rattle.ordc.proofs.curve_text.ordc_read_curves.Statement.{statement}

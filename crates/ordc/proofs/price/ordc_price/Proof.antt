@@ -3,10 +3,10 @@ use mathlib.Core.Path.{_≡_, ap, sym, subst, _∙_}
 use denote.Ref.{now}
 use Prim.Native.Nat.{ℕ}
 use mathlib.Core.List.{List}
-use Rattle.curve.specs.Curves.{curvesOf}
-use Rattle.curve.specs.declared.curves.CurveSet.{CurveSet}
+use Rattle.curve_values.specs.CurveValues.{curvesOf}
+use Rattle.curve_set.specs.declared.CurveSet.{CurveSet}
 use Rattle.adder.specs.declared.price.Pricing.{Pricing}
-use Rattle.pricing.specs.Snapshot.{priced}
+use Rattle.pricing.specs.Pricing.{priced}
 use Rattle.ordc.specs.Refusal.{refusalIn}
 use Rattle.ordc.specs.Price.{pricingAnswer, pricingValues, SmallPricing}
 use Rattle.ordc.proofs.Answered.{lent-laid, lent-left}

@@ -1,54 +1,27 @@
-use mathlib.Core.Path.{refl}
-use borrow.Author.Needs.{needs, sfits-of}
-use lib.IntN.{pos}
-use lib.ListN.{getD}
-use mir.Facts.{toZ-ofZ}
-use mir.Syntax.{w32, w64}
-use Rattle.resource.proofs.Readings.{power-small}
+use native.Mathlib.Omega.{arith}
+use Rattle.resource.proofs.Making.{number-is, controllable-same}
 use Rattle.resource.proofs.made.controllable_of.Statement.{statement}
 use Rattle.resource.proofs.made.controllable_of.Tie as tie
 
-array-copy-out-narrow : tie.Need-array-copy-out-narrow
-array-copy-out-narrow c = search needs
+number-requires : tie.Need-number-requires
+number-requires c κs = (omega (arith, c .pre .0), c .pre .1 0)
 
-narrow-requires : tie.Need-narrow-requires
-narrow-requires c κs = rw (toZ-ofZ (sfits-of (c .narrow-arg .given))) (power-small (c .before .pre .base))
+number-requires-2 : tie.Need-number-requires-2
+number-requires-2 c κs = (omega (arith, c .before .pre .0), c .before .pre .1 1)
 
-array-copy-out-narrow-2 : tie.Need-array-copy-out-narrow-2
-array-copy-out-narrow-2 c = search needs
+number-requires-3 : tie.Need-number-requires-3
+number-requires-3 c κs = (omega (arith, c .before .before .pre .0), c .before .before .pre .1 2)
 
-narrow-requires-2 : tie.Need-narrow-requires-2
-narrow-requires-2 c κs = rw (toZ-ofZ (sfits-of (c .narrow-arg2 .given))) (power-small (c .before .before .before .pre .lpc))
-
-array-copy-out-narrow-3 : tie.Need-array-copy-out-narrow-3
-array-copy-out-narrow-3 c = search needs
-
-narrow-requires-3 : tie.Need-narrow-requires-3
-narrow-requires-3 c κs = rw (toZ-ofZ (sfits-of (c .narrow-arg3 .given))) (power-small (c .before .before .before .before .before .pre .nonspin))
-
-array-copy-out-narrow-4 : tie.Need-array-copy-out-narrow-4
-array-copy-out-narrow-4 c = search needs
-
-narrow-requires-4 : tie.Need-narrow-requires-4
-narrow-requires-4 c κs = rw (toZ-ofZ (sfits-of (c .narrow-arg4 .given))) (power-small (c .before .before .before .before .before .before .before .pre .regup))
+number-requires-4 : tie.Need-number-requires-4
+number-requires-4 c κs = (omega (arith, c .before .before .before .pre .0), c .before .before .before .pre .1 3)
 
 returns : tie.Need-returns
 returns c =
-    let v = c .before .before .before .before .before .before .before .before .args .t1 in
-    rw (
-      toZ-ofZ {w = w32} {z = c .before .before .before .before .before .before .narrow .result} (sfits-of (c .before .before .before .before .before .before .narrow .ok)),
-      c .before .before .before .before .before .before .narrow .ensures,
-      toZ-ofZ {w = w64} {z = getD v 0 (pos 0)} (sfits-of (c .before .before .before .before .before .before .before .narrow-arg .given)),
-      toZ-ofZ {w = w32} {z = c .before .before .before .before .narrow2 .result} (sfits-of (c .before .before .before .before .narrow2 .ok)),
-      c .before .before .before .before .narrow2 .ensures,
-      toZ-ofZ {w = w64} {z = getD v 1 (pos 0)} (sfits-of (c .before .before .before .before .before .narrow-arg2 .given)),
-      toZ-ofZ {w = w32} {z = c .before .before .narrow3 .result} (sfits-of (c .before .before .narrow3 .ok)),
-      c .before .before .narrow3 .ensures,
-      toZ-ofZ {w = w64} {z = getD v 2 (pos 0)} (sfits-of (c .before .before .before .narrow-arg3 .given)),
-      toZ-ofZ {w = w32} {z = c .narrow4 .result} (sfits-of (c .narrow4 .ok)),
-      c .narrow4 .ensures,
-      toZ-ofZ {w = w64} {z = getD v 3 (pos 0)} (sfits-of (c .before .narrow-arg4 .given)),
-    ) refl
+    controllable-same
+    (number-is (c .before .before .before .number .ok) (c .before .before .before .number .ensures))
+    (number-is (c .before .before .number2 .ok) (c .before .before .number2 .ensures))
+    (number-is (c .before .number3 .ok) (c .before .number3 .ensures))
+    (number-is (c .number4 .ok) (c .number4 .ensures))
 
 pub controllable-of-spec : {M : Type 1} → statement M
-controllable-of-spec = tie.close (tie.spec array-copy-out-narrow narrow-requires array-copy-out-narrow-2 narrow-requires-2 array-copy-out-narrow-3 narrow-requires-3 array-copy-out-narrow-4 narrow-requires-4 returns)
+controllable-of-spec = tie.close (tie.spec number-requires number-requires-2 number-requires-3 number-requires-4 returns)

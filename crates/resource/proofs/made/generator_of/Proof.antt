@@ -1,72 +1,35 @@
-use mathlib.Core.Path.{refl}
-use borrow.Author.Needs.{needs, sfits-of}
-use lib.IntN.{pos}
-use lib.ListN.{getD}
-use mir.Facts.{toZ-ofZ}
-use mir.Syntax.{w32, w64}
-use Rattle.resource.proofs.Readings.{power-small, net-small, flag-small}
+use native.Mathlib.Omega.{arith}
+use Rattle.resource.proofs.Making.{number-is, generator-same}
 use Rattle.resource.proofs.made.generator_of.Statement.{statement}
 use Rattle.resource.proofs.made.generator_of.Tie as tie
 
-array-copy-out-narrow : tie.Need-array-copy-out-narrow
-array-copy-out-narrow c = search needs
+number-requires : tie.Need-number-requires
+number-requires c κs = (omega (arith, c .pre .0), c .pre .1 0)
 
-narrow-requires : tie.Need-narrow-requires
-narrow-requires c κs = rw (toZ-ofZ (sfits-of (c .narrow-arg .given))) (net-small (c .before .pre .net))
+number-requires-2 : tie.Need-number-requires-2
+number-requires-2 c κs = (omega (arith, c .before .pre .0), c .before .pre .1 1)
 
-array-copy-out-narrow-2 : tie.Need-array-copy-out-narrow-2
-array-copy-out-narrow-2 c = search needs
+number-requires-3 : tie.Need-number-requires-3
+number-requires-3 c κs = (omega (arith, c .before .before .pre .0), c .before .before .pre .1 2)
 
-narrow-requires-2 : tie.Need-narrow-requires-2
-narrow-requires-2 c κs = rw (toZ-ofZ (sfits-of (c .narrow-arg2 .given))) (power-small (c .before .before .before .pre .lsl))
+number-requires-4 : tie.Need-number-requires-4
+number-requires-4 c κs = (omega (arith, c .before .before .before .pre .0), c .before .before .before .pre .1 3)
 
-array-copy-out-narrow-3 : tie.Need-array-copy-out-narrow-3
-array-copy-out-narrow-3 c = search needs
+number-requires-5 : tie.Need-number-requires-5
+number-requires-5 c κs = (omega (arith, c .before .before .before .before .pre .0), c .before .before .before .before .pre .1 4)
 
-narrow-requires-3 : tie.Need-narrow-requires-3
-narrow-requires-3 c κs = rw (toZ-ofZ (sfits-of (c .narrow-arg3 .given))) (power-small (c .before .before .before .before .before .pre .hsl))
-
-array-copy-out-narrow-4 : tie.Need-array-copy-out-narrow-4
-array-copy-out-narrow-4 c = search needs
-
-narrow-requires-4 : tie.Need-narrow-requires-4
-narrow-requires-4 c κs = rw (toZ-ofZ (sfits-of (c .narrow-arg4 .given))) (power-small (c .before .before .before .before .before .before .before .pre .base))
-
-array-copy-out-narrow-5 : tie.Need-array-copy-out-narrow-5
-array-copy-out-narrow-5 c = search needs
-
-narrow-requires-5 : tie.Need-narrow-requires-5
-narrow-requires-5 c κs = rw (toZ-ofZ (sfits-of (c .narrow-arg5 .given))) (power-small (c .before .before .before .before .before .before .before .before .before .pre .nonspin))
-
-array-copy-out-narrow-6 : tie.Need-array-copy-out-narrow-6
-array-copy-out-narrow-6 c = search needs
-
-narrow-requires-6 : tie.Need-narrow-requires-6
-narrow-requires-6 c κs = rw (toZ-ofZ (sfits-of (c .narrow-arg6 .given))) (flag-small (c .before .before .before .before .before .before .before .before .before .before .before .pre .cold30))
+number-requires-6 : tie.Need-number-requires-6
+number-requires-6 c κs = (omega (arith, c .before .before .before .before .before .pre .0), c .before .before .before .before .before .pre .1 5)
 
 returns : tie.Need-returns
 returns c =
-    let v = c .before .before .before .before .before .before .before .before .before .before .before .before .args .t3 in
-    rw (
-      toZ-ofZ {w = w32} {z = c .before .before .before .before .before .before .before .before .before .before .narrow .result} (sfits-of (c .before .before .before .before .before .before .before .before .before .before .narrow .ok)),
-      c .before .before .before .before .before .before .before .before .before .before .narrow .ensures,
-      toZ-ofZ {w = w64} {z = getD v 0 (pos 0)} (sfits-of (c .before .before .before .before .before .before .before .before .before .before .before .narrow-arg .given)),
-      toZ-ofZ {w = w32} {z = c .before .before .before .before .before .before .before .before .narrow2 .result} (sfits-of (c .before .before .before .before .before .before .before .before .narrow2 .ok)),
-      c .before .before .before .before .before .before .before .before .narrow2 .ensures,
-      toZ-ofZ {w = w64} {z = getD v 1 (pos 0)} (sfits-of (c .before .before .before .before .before .before .before .before .before .narrow-arg2 .given)),
-      toZ-ofZ {w = w32} {z = c .before .before .before .before .before .before .narrow3 .result} (sfits-of (c .before .before .before .before .before .before .narrow3 .ok)),
-      c .before .before .before .before .before .before .narrow3 .ensures,
-      toZ-ofZ {w = w64} {z = getD v 2 (pos 0)} (sfits-of (c .before .before .before .before .before .before .before .narrow-arg3 .given)),
-      toZ-ofZ {w = w32} {z = c .before .before .before .before .narrow4 .result} (sfits-of (c .before .before .before .before .narrow4 .ok)),
-      c .before .before .before .before .narrow4 .ensures,
-      toZ-ofZ {w = w64} {z = getD v 3 (pos 0)} (sfits-of (c .before .before .before .before .before .narrow-arg4 .given)),
-      toZ-ofZ {w = w32} {z = c .before .before .narrow5 .result} (sfits-of (c .before .before .narrow5 .ok)),
-      c .before .before .narrow5 .ensures,
-      toZ-ofZ {w = w64} {z = getD v 4 (pos 0)} (sfits-of (c .before .before .before .narrow-arg5 .given)),
-      toZ-ofZ {w = w32} {z = c .narrow6 .result} (sfits-of (c .narrow6 .ok)),
-      c .narrow6 .ensures,
-      toZ-ofZ {w = w64} {z = getD v 5 (pos 0)} (sfits-of (c .before .narrow-arg6 .given)),
-    ) refl
+    generator-same (c .before .before .before .before .before .before .args .kind) (c .before .before .before .before .before .before .args .status)
+    (number-is (c .before .before .before .before .before .number .ok) (c .before .before .before .before .before .number .ensures))
+    (number-is (c .before .before .before .before .number2 .ok) (c .before .before .before .before .number2 .ensures))
+    (number-is (c .before .before .before .number3 .ok) (c .before .before .before .number3 .ensures))
+    (number-is (c .before .before .number4 .ok) (c .before .before .number4 .ensures))
+    (number-is (c .before .number5 .ok) (c .before .number5 .ensures))
+    (number-is (c .number6 .ok) (c .number6 .ensures))
 
 pub generator-of-spec : {M : Type 1} → statement M
-generator-of-spec = tie.close (tie.spec array-copy-out-narrow narrow-requires array-copy-out-narrow-2 narrow-requires-2 array-copy-out-narrow-3 narrow-requires-3 array-copy-out-narrow-4 narrow-requires-4 array-copy-out-narrow-5 narrow-requires-5 array-copy-out-narrow-6 narrow-requires-6 returns)
+generator-of-spec = tie.close (tie.spec number-requires number-requires-2 number-requires-3 number-requires-4 number-requires-5 number-requires-6 returns)

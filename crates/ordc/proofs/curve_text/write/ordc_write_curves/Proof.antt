@@ -3,9 +3,10 @@ use borrow.Author.Needs.{needs}
 use native.Mathlib.Omega.{arith}
 use mathlib.Core.Path.{_≡_, ap, _∙_}
 use denote.Ref.{now}
-use Rattle.curve.specs.Curves.{curvesOf, writingCurves, writtenBuffer, CurvesWritten}
-use Rattle.curve.specs.declared.curves.CurveSet.{CurveSet}
-use Rattle.curve.specs.declared.curves.WrittenCurves.{WrittenCurves}
+use Rattle.curve_values.specs.CurveValues.{curvesOf}
+use Rattle.curve.specs.CurveText.{writingCurves, writtenBuffer, CurvesWritten}
+use Rattle.curve_set.specs.declared.CurveSet.{CurveSet}
+use Rattle.curve.specs.declared.WrittenCurves.{WrittenCurves}
 use Rattle.ordc.specs.Refusal.{refusalIn}
 use Rattle.ordc.specs.CurveText.{writingAnswer, writtenLength}
 use Rattle.ordc.proofs.Answered.{lent-laid, lent-left}

@@ -1,0 +1,2 @@
+-- Document 01, "Snapshot to reserves": units counted on line and off line.
+pub mod Counted

@@ -1,0 +1,112 @@
+-- `curve::curve_text::curves_of` meets its contract. The invariant: the pairs so far, and then those of the values that are left, are the pairs of the values.
+use borrow.Author.Needs.{sfits-of}
+use Prim.Native.Nat.{suc, _+_, _*_, _-_, _≤_, _<_}
+use mathlib.Core.List.{_++_, append-nil}
+use mathlib.Core.Path.{_≡_, refl, _∙_}
+use lib.ListN.{length, take, drop, length-set}
+use lib.Seq.{take-all}
+use mir.Facts.{toZ-ofZ}
+use Rattle.curve_values.specs.CurveValues.{pairsOf}
+use Rattle.curve_values.proofs.CurveValues.{pairs-more}
+use native.Mathlib.Omega.{arith}
+use Rattle.curve_values.proofs.curves_of.Statement.{statement}
+use Rattle.curve_values.proofs.curves_of.Tie as tie
+
+abbrev Inv-loop : tie.InvT-loop
+Inv-loop values pairs₀ i₀ pairs i =
+    (i ≤ 24) × (length pairs ≡ 24) × (pairsOf 24 (drop 2 values) ≡ take i pairs ++ pairsOf (24 - i) (drop (2 + 2 * i) values))
+
+abbrev μ-loop : tie.MeasureT-loop
+μ-loop values pairs₀ i₀ pairs i = 24 - i
+
+loop-holds : tie.Need-loop-holds Inv-loop μ-loop
+loop-holds c = (omega arith, refl, refl)
+
+mul-mean : tie.Need-mul-mean Inv-loop μ-loop
+mul-mean c = omega arith
+
+add-mean : tie.Need-add-mean Inv-loop μ-loop
+add-mean c = omega arith
+
+mul-mean-2 : tie.Need-mul-mean-2 Inv-loop μ-loop
+mul-mean-2 c = omega arith
+
+array-copy-out-mean : tie.Need-array-copy-out-mean Inv-loop μ-loop
+array-copy-out-mean c = omega arith
+
+mul-spread : tie.Need-mul-spread Inv-loop μ-loop
+mul-spread c = omega arith
+
+add-spread : tie.Need-add-spread Inv-loop μ-loop
+add-spread c = omega arith
+
+mul-spread-2 : tie.Need-mul-spread-2 Inv-loop μ-loop
+mul-spread-2 c = omega arith
+
+array-copy-out-spread : tie.Need-array-copy-out-spread Inv-loop μ-loop
+array-copy-out-spread c = omega arith
+
+mul-pairs : tie.Need-mul-pairs Inv-loop μ-loop
+mul-pairs c = omega arith
+
+array-set-from-pairs : tie.Need-array-set-from-pairs Inv-loop μ-loop
+array-set-from-pairs c = omega arith
+
+add-i : tie.Need-add-i Inv-loop μ-loop
+add-i c = omega arith
+
+loop-less : tie.Need-loop-less Inv-loop μ-loop
+loop-less c = omega arith
+
+loop-again : tie.Need-loop-again Inv-loop μ-loop
+loop-again c =
+    let turn = c .before .before in
+    let loop = turn .before .loop in
+    let values = turn .before .before .args .t1 in
+    let inside : loop .i < length (loop .pairs) = omega (arith, loop .inv .1, turn .loop-test .taken) in
+    let left : 24 - loop .i ≡ suc (24 - (loop .i + 1)) = omega (arith, turn .loop-test .taken) in (
+      omega (arith, turn .loop-test .taken),
+      simp length-set (loop .inv .1),
+      rw (toZ-ofZ (sfits-of (c .before .mean .given)), toZ-ofZ (sfits-of (c .spread .given)))
+          (loop .inv .2 ∙ rw left (pairs-more (loop .pairs) values (loop .i) (24 - (loop .i + 1)) inside)),
+    )
+
+array-copy-out-voll : tie.Need-array-copy-out-voll Inv-loop μ-loop
+array-copy-out-voll c = omega arith
+
+array-copy-out-floor : tie.Need-array-copy-out-floor Inv-loop μ-loop
+array-copy-out-floor c = omega arith
+
+returns : tie.Need-returns Inv-loop μ-loop
+unfolding pairsOf
+returns c =
+    let done = c .before .before in
+    let loop = done .before .loop in
+    let over : 24 - loop .i ≡ 0 = omega (arith, done .loop-test .left) in
+    let full : length (loop .pairs) ≤ loop .i = omega (arith, loop .inv .1, done .loop-test .left) in
+    let pairs : pairsOf 24 (drop 2 (done .before .before .args .t1)) ≡ loop .pairs = loop .inv .2 ∙ rw (over, append-nil, take-all (loop .i) (loop .pairs) full) in
+    rw (toZ-ofZ (sfits-of (c .before .voll .given)), toZ-ofZ (sfits-of (c .floor .given)), ← pairs)
+
+pub curves-of-spec : {M : Type 1} → statement M
+curves-of-spec =
+    tie.close
+    (tie.spec
+    Inv-loop
+    μ-loop
+    loop-holds
+    mul-mean
+    add-mean
+    mul-mean-2
+    array-copy-out-mean
+    mul-spread
+    add-spread
+    mul-spread-2
+    array-copy-out-spread
+    mul-pairs
+    array-set-from-pairs
+    add-i
+    loop-less
+    loop-again
+    array-copy-out-voll
+    array-copy-out-floor
+    returns)

@@ -1,0 +1,2 @@
+-- A curve set as a list of numbers.
+pub mod CurveValues

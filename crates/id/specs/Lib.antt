@@ -1,0 +1,2 @@
+-- Document 01, "Texts": ids.
+pub mod Id

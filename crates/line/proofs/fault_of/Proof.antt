@@ -1,0 +1,19 @@
+-- Each case of the line computes.
+use borrow.Author.Needs.{needs}
+use Rattle.line.proofs.fault_of.Statement.{statement}
+use Rattle.line.proofs.fault_of.Tie as tie
+
+enum-known-line : tie.Need-enum-known-line
+enum-known-line c = search needs
+
+enum-known-line-2 : tie.Need-enum-known-line-2
+enum-known-line-2 c = search needs
+
+returns : tie.Need-returns
+returns c = search needs
+
+returns-2 : tie.Need-returns-2
+returns-2 c = cc
+
+pub fault-of-spec : {M : Type 1} → statement M
+fault-of-spec = tie.close (tie.spec enum-known-line enum-known-line-2 returns returns-2)

@@ -1,0 +1,153 @@
+-- Laws of natural numbers at the start of a text: digits read one by one, and a line that is such a number.
+use Prim.Native.Nat.{ℕ, zero, suc, _+_, _-_, _*_, _≤_, _<_, min}
+use native.Mathlib.Nat.{add-sub-cancel-left}
+use native.Mathlib.Numerals.{add-one}
+use native.Mathlib.Omega.{arith}
+use mathlib.Core.Bool.{Bool, true, false, _&&_}
+use mathlib.Core.List.{List, [], _∷_, _++_}
+use mathlib.Core.Option.{some}
+use mathlib.Core.Path.{_≡_, refl, ap, sym, _∙_}
+use lib.Dec.{eqb, leb}
+use lib.IntN.{ℤ, pos}
+use lib.ListN.{length, take, drop, getD, length-take, length-drop, take-append-drop}
+use lib.Seq.{drop-cons, drop-drop, take-suc, take-all, getD-take}
+use borrow.Author.Tests.{le-leb, leb-true, eq-eqb, ne-eqb}
+use Rattle.text.specs.Choice.{pick}
+use Rattle.text.proofs.Choices.{and-left, and-right}
+use Rattle.line.specs.Line.{lineLength, begins, part, lineAt}
+use Rattle.line.specs.Field.{fieldAt, judged}
+use Rattle.line.specs.declared.Line.the-variants as line
+use Rattle.line.proofs.Lines.{part-whole, line-after, value-line}
+use Rattle.line.proofs.Fields.{field-value}
+use Rattle.number.specs.Number.{isDigit, allDigits, valueOf, plain, numberOf, inRange, ranged, numberIn}
+use Rattle.number.specs.Field.{numberField, judgedNumber}
+use Rattle.number.specs.declared.Number.{Number}
+use Rattle.number.proofs.Digits.{digits-low, digits-high, digit-first, value-on, value-grows, plain-zero, plain-other}
+use Rattle.number.proofs.Numbers.{numberOf-plain}
+
+digits-join : (xs ys : List ℕ) → allDigits xs ≡ true → allDigits (xs ++ ys) ≡ allDigits ys
+unfolding allDigits
+digits-join [] ys d = refl
+digits-join (byte ∷ xs) ys d = rw (and-left (isDigit byte) (allDigits xs) d) (digits-join xs ys (and-right (isDigit byte) (allDigits xs) d))
+
+value-join : (front : ℕ) (xs ys : List ℕ) → valueOf front (xs ++ ys) ≡ valueOf (valueOf front xs) ys
+unfolding valueOf
+value-join front [] ys = refl
+value-join front (byte ∷ xs) ys = value-join (front * 10 + (byte - 48)) xs ys
+
+-- the first i bytes are digits of a value that a machine number holds
+pub record DigitsRead (s : List ℕ) (i value : ℕ) : Type 0 where
+  pub within : i ≤ length s
+  pub digits : allDigits (take i s) ≡ true
+  pub worth : value ≡ valueOf 0 (take i s)
+  pub held : value ≤ 9223372036854775809
+
+-- why no more are read
+abbrev pub Stopped : List ℕ → ℕ → ℕ → Type 0
+Stopped s i value = i < length s → allDigits (drop i s) ≡ true → 922337203685477580 < value
+
+pub digits-none : (s : List ℕ) → DigitsRead s 0 0
+unfolding allDigits valueOf
+digits-none s = record { within = omega arith; digits = refl; worth = refl; held = omega arith }
+
+module _ (s : List ℕ) (i value : ℕ) (h : i < length s) where
+  pub stopped-low : getD s i 0 < 48 → Stopped s i value
+  stopped-low l within digits = let z : true ≡ false = sym digits ∙ digits-low s i h l in let n : _≡_ {A = ℕ} 0 1 = cc in omega arith
+
+  pub stopped-high : 48 ≤ getD s i 0 → 57 < getD s i 0 → Stopped s i value
+  stopped-high l u within digits = let z : true ≡ false = sym digits ∙ digits-high s i h l u in let n : _≡_ {A = ℕ} 0 1 = cc in omega arith
+
+  pub one-digit-more :
+      DigitsRead s i value → 48 ≤ getD s i 0 → getD s i 0 ≤ 57 → value ≤ 922337203685477580 →
+      DigitsRead s (i + 1) (value * 10 + (getD s i 0 - 48))
+  unfolding allDigits valueOf
+  one-digit-more read l u small =
+      record {
+        within = omega arith;
+        digits = rw (add-one, take-suc s i 0 h, digits-join (take i s) (getD s i 0 ∷ []) (read .digits), le-leb 48 (getD s i 0) l, le-leb (getD s i 0) 57 u);
+        worth = rw (add-one, take-suc s i 0 h, value-join 0 (take i s) (getD s i 0 ∷ []), ← read .worth);
+        held = omega arith;
+      }
+
+pub part-length : (s : List ℕ) (i : ℕ) → length (part s i (length s)) ≡ length s - i
+part-length s i = rw (part-whole s i) (length-drop i s)
+
+-- the whole value of digits, from those that were read
+module _ (s : List ℕ) (i value : ℕ) (read : DigitsRead s i value) where
+  pub value-whole : length s ≤ i → value ≡ min (valueOf 0 s) 9223372036854775809
+  value-whole h = omega (arith, read .held, read .worth ∙ ap (valueOf 0) (take-all i s h))
+
+  pub value-limit : allDigits s ≡ true → i < length s → Stopped s i value → 9223372036854775809 ≡ min (valueOf 0 s) 9223372036854775809
+  value-limit all h stopped =
+      let parts : valueOf 0 s ≡ valueOf value (drop i s) =
+      ap (valueOf 0) (sym (take-append-drop i s)) ∙ value-join 0 (take i s) (drop i s) ∙ ap (λ (v : ℕ). valueOf v (drop i s)) (sym (read .worth)) in
+      let rest : allDigits (drop i s) ≡ true =
+      sym (digits-join (take i s) (drop i s) (read .digits)) ∙ ap allDigits (take-append-drop i s) ∙ all in
+      omega (arith, parts, stopped h rest, value-on s i value h, value-grows (value * 10 + (getD s i 0 - 48)) (drop (i + 1) s))
+
+-- digits up to byte 10 are a line
+digits-line : (n : ℕ) (s : List ℕ) → n < length s → allDigits (take n s) ≡ true → getD s n 0 ≡ 10 → lineLength s ≡ n
+unfolding lineLength allDigits
+digits-line n [] h d e = absurd (omega arith)
+digits-line zero (byte ∷ s) h d e = rw (eq-eqb byte 10 e)
+digits-line (suc n) (byte ∷ s) h d e =
+    let l : 48 ≤ byte = leb-true 48 byte (and-left (leb 48 byte) (leb byte 57) (and-left (isDigit byte) (allDigits (take n s)) d)) in
+    rw (ne-eqb byte 10 (λ q. omega arith)) (ap suc (digits-line n s (omega arith) (and-right (isDigit byte) (allDigits (take n s)) d) e))
+
+natural-of : (s : List ℕ) → 0 < length s → allDigits s ≡ true → plain s ≡ true → numberOf s ≡ some (pos (valueOf 0 s))
+natural-of s any digits p = numberOf-plain s any (λ e. omega (arith, digit-first s 0 any digits)) ∙ rw p
+
+-- a text's first line is a natural number
+abbrev pub NaturalLine : List ℕ → ℕ → ℕ → Type 0
+NaturalLine s n value = (n < length s) × (lineLength s ≡ n) × (numberOf (take n s) ≡ some (pos value)) × (value ≤ 9223372036854775807)
+
+-- digits with no leading zero
+module _ (s : List ℕ) (n value : ℕ) (read : DigitsRead s n value) (h : n < length s) (e : getD s n 0 ≡ 10) (small : value ≤ 9223372036854775807) where
+  natural-line : 0 < n → plain (take n s) ≡ true → NaturalLine s n value
+  natural-line any p = (
+    h,
+    digits-line n s h (read .digits) e,
+    rw (read .worth) (natural-of (take n s) (omega (arith, length-take n s)) (read .digits) p),
+    small,
+  )
+
+  pub natural-other : (getD s 0 0 ≡ 48 → ⊥) → 0 < n → NaturalLine s n value
+  natural-other first any =
+      natural-line any (plain-other (take n s) 0 (omega (arith, length-take n s)) (λ q. first (sym (getD-take n s 0 0 any) ∙ q)) ∙ read .digits)
+
+  pub natural-zero : getD s 0 0 ≡ 48 → n ≤ 1 → 0 < n → NaturalLine s n value
+  natural-zero first one any =
+      natural-line any (plain-zero (take n s) 0 (omega (arith, length-take n s)) (getD-take n s 0 0 any ∙ first) ∙ eq-eqb 1 (length (take n s)) (omega (arith, length-take n s)))
+
+-- under a key
+abbrev pub NaturalUnder : List ℕ → List ℕ → ℕ → ℕ → Type 0
+NaturalUnder key s n value =
+    (n < length s) × (lineLength s ≡ n) × (begins key (take n s) ≡ true) × (length key < n) × (numberOf (part s (length key) n) ≡ some (pos value)) ×
+    (value ≤ 9223372036854775807)
+
+pub natural-under :
+    (key s : List ℕ) (n value : ℕ) → begins key (take (lineLength s) s) ≡ true → 0 < n → NaturalLine (part s (length key) (length s)) n value →
+    NaturalUnder key s (length key + n) value
+natural-under key s n value b any under =
+    let l = rw (part-whole s (length key)) at under in
+    let whole : lineLength s ≡ length key + n = line-after key s b ∙ ap (λ (m : ℕ). length key + m) (l .1) in (
+      omega (arith, l .0, length-drop (length key) s),
+      whole,
+      rw whole at b,
+      omega arith,
+      rw add-sub-cancel-left (l .2),
+      l .3,
+    )
+
+-- what the line of such a number gives
+pub number-natural :
+    (key text : List ℕ) (at n value : ℕ) (low high : ℤ) {rest : List ℕ} {k : Number} → rest ≡ part text at (length text) → NaturalUnder key rest n value →
+    k ≡ inRange low high (pos value) → judged at (at + n + 1) (judgedNumber k) ≡ fieldAt (numberField key low high) text at
+number-natural key text at n value low high {k = k} same under is =
+    let l = rw (same ∙ part-whole text at) at under in
+    let found : line.Value (at + length key) (at + n) (at + n + 1) ≡ lineAt key text at =
+    value-line key text at (at + n) (ap (λ (m : ℕ). at + m) (sym (l .1))) (omega (arith, l .0, length-drop at text)) (rw (l .1) (l .2)) (λ q. omega (arith, l .3)) in
+    let size : at + n - (at + length key) ≡ n - length key = omega arith in
+    let worth : numberOf (part text (at + length key) (at + n)) ≡ some (pos value) = rw (size, ← drop-drop (length key) at text) (l .4) in
+    let number : k ≡ numberIn low high (part text (at + length key) (at + n)) = is ∙ sym (ap (ranged low high) worth) in
+    ap (λ (m : Number). judged at (at + n + 1) (judgedNumber m)) number ∙ field-value (numberField key low high) text at found refl

@@ -1,0 +1,3 @@
+-- Document 01, "Texts": numbers.
+pub mod Number
+pub mod Field

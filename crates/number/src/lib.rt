@@ -1,0 +1,154 @@
+// Numbers: decimal digits, `-` in front if below zero, no leading zero, no `-0`, however many digits.
+mod natural;
+
+ghost use mathlib.Core.Path.{_≡_};
+ghost use Prim.Native.Nat.{_≤_, _-_};
+ghost use lib.IntN.{negsuc};
+ghost use lib.ListN.{drop};
+ghost use Rattle.number.specs.Number.{allDigits, plain, inRange, numberIn};
+ghost use Rattle.line.specs.Field.{fieldAt, judged};
+ghost use Rattle.number.specs.Field.{numberField, numberAnswer, judgedNumber, numberFault};
+use crate::natural::magnitude_of;
+use crate::natural::natural_at;
+use line::Line;
+use line::fault_of;
+use line::line_at;
+use line::part;
+use text::refusal::Fault;
+
+// What the bytes of a value say.
+pub enum Number {
+    Value(i64),
+    // Well written, and outside the range (7).
+    Outside,
+    // Badly written (6).
+    Malformed,
+}
+
+// What the number reader finds at a position.
+pub enum NumberLine {
+    Value { value: i64, next: usize },
+    Refused(Fault),
+}
+
+// Whether the bytes from a position on are digits alone.
+fn all_digits(value: &[u8], from: usize) -> bool
+    ensures { λ r. ⌜ r ≡ allDigits (drop from (now (value .entry))) ⌝ }
+{
+    let mut i = from;
+    while i < value.len() {
+        if value[i] < 48 {
+            return false;
+        }
+        if 57 < value[i] {
+            return false;
+        }
+        i += 1;
+    }
+    true
+}
+
+// Whether the bytes from a position on are digits with no leading zero.
+fn is_plain(value: &[u8], from: usize) -> bool
+    ensures { λ r. ⌜ r ≡ plain (drop from (now (value .entry))) ⌝ }
+{
+    if value.len() <= from {
+        return false;
+    }
+    if value[from] == 48 {
+        return from + 1 == value.len();
+    }
+    all_digits(value, from)
+}
+
+// A number below zero, from its magnitude.
+fn below_zero(magnitude: u64) -> i64
+    requires { ⌜ (1 ≤ magnitude) × (magnitude ≤ 9223372036854775808) ⌝ }
+    ensures { λ r. ⌜ r ≡ negsuc (magnitude - 1) ⌝ }
+{
+    -1 - ((magnitude - 1) as i64)
+}
+
+// A number held against a range.
+fn ranged(z: i64, low: i64, high: i64) -> Number
+    ensures { λ r. ⌜ r ≡ inRange low high z ⌝ }
+{
+    if z < low {
+        return Number::Outside;
+    }
+    if high < z {
+        return Number::Outside;
+    }
+    Number::Value(z)
+}
+
+// A value's bytes read as a number from low to high.
+pub(crate) fn number_in(value: &[u8], low: i64, high: i64) -> Number
+    ensures { λ r. ⌜ r ≡ numberIn low high (now (value .entry)) ⌝ }
+{
+    if value.len() == 0 {
+        return Number::Malformed;
+    }
+    if value[0] == 45 {
+        if !is_plain(value, 1) {
+            return Number::Malformed;
+        }
+        let magnitude = magnitude_of(value, 1);
+        if magnitude == 0 {
+            return Number::Malformed;
+        }
+        if 9223372036854775808 < magnitude {
+            return Number::Outside;
+        }
+        return ranged(below_zero(magnitude), low, high);
+    }
+    if !is_plain(value, 0) {
+        return Number::Malformed;
+    }
+    let magnitude = magnitude_of(value, 0);
+    if 9223372036854775807 < magnitude {
+        return Number::Outside;
+    }
+    ranged(magnitude as i64, low, high)
+}
+
+// What a line says whose value is read.
+fn number_answer(number: Number, at: usize, next: usize) -> NumberLine
+    ensures { λ r. ⌜ numberAnswer r ≡ judged at next (judgedNumber number) ⌝ }
+{
+    match number {
+        Number::Value(value) => NumberLine::Value { value, next },
+        Number::Outside => NumberLine::Refused(Fault { number: 7, at }),
+        Number::Malformed => NumberLine::Refused(Fault { number: 6, at }),
+    }
+}
+
+// The line due at a position, read as a number from low to high. Most lines hold a natural number, which one look at each byte tells; any other line is
+// looked at part by part.
+pub fn number_at(text: &[u8], at: usize, key: &[u8], low: i64, high: i64) -> NumberLine
+    ensures { λ r. ⌜ numberAnswer r ≡ fieldAt (numberField (now (key .entry)) low high) (now (text .entry)) at ⌝ }
+{
+    let n = natural_at(part(text, at, text.len()), key);
+    let length = n.length;
+    if 0 < length {
+        return number_answer(ranged(n.value as i64, low, high), at, at + length + 1);
+    }
+    let l = line_at(text, at, key);
+    let Line::Value { start, end, next } = l else {
+        return NumberLine::Refused(fault_of(l));
+    };
+    number_answer(number_in(part(text, start, end), low, high), at, next)
+}
+
+// The fault of a refused number.
+pub fn number_fault(line: NumberLine) -> Fault
+    ensures { λ r. ⌜ r ≡ numberFault line ⌝ }
+{
+    match line {
+        NumberLine::Refused(fault) => fault,
+        NumberLine::Value { value: _, next } => Fault {
+            number: 0,
+            at: next,
+        },
+    }
+}

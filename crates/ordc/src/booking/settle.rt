@@ -1,0 +1,29 @@
+// Settling a record.
+ghost use mathlib.Core.Path.{_≡_};
+ghost use Rattle.ordc.specs.Record.{recordOf, RecordSettled};
+use crate::booking::record_of;
+use crate::refusal::Refusal;
+use crate::refusal::refusal_in;
+use curve_values::values_of;
+use record::settle::settle;
+
+// The curves of a lent record, with VOLL in cents per MWh and the minimum contingency level X in kW, laid into a lent curve set, which a refusal leaves as it was.
+#[no_mangle]
+pub extern "C" fn ordc_settle(
+    history: &[i64; 72],
+    voll: i64,
+    floor: i64,
+    curves: &mut [i64; 50],
+) -> Refusal
+    ensures { λ r. ⌜ RecordSettled (now (history .entry)) voll floor (now (curves .entry)) (now (curves .exit)) r ⌝ }
+{
+    let settled = settle(record_of(history), voll, floor);
+    let answer = settled.answer;
+    let found = refusal_in(answer);
+    if found.number != 0 {
+        return found;
+    }
+    let set = settled.set;
+    *curves = values_of(set);
+    found
+}

@@ -1,0 +1,21 @@
+use native.Mathlib.Omega.{arith}
+use native.Mathlib.Nat.{div-le-self}
+use mathlib.Core.Path.{refl}
+use Rattle.season.specs.Season.{groupOf, seasonOf, blockOf}
+use Rattle.season.proofs.group_of.Statement.{statement}
+use Rattle.season.proofs.group_of.Tie as tie
+use Rattle.season.proofs.group_of.Reads as reads
+use Rattle.season.proofs.group_of.Lts as lts
+
+mul-result : tie.Need-mul-result
+mul-result c = omega arith
+
+add-result : tie.Need-add-result
+add-result c = omega arith
+
+returns : tie.Need-returns
+unfolding groupOf seasonOf blockOf
+returns c = refl
+
+pub group-of-spec : {M : Type 1} → statement M
+group-of-spec = tie.close (tie.spec mul-result add-result returns)

@@ -1,0 +1,175 @@
+-- Laws on the resources one after the other: the sums so far and the resources that are left make up the whole.
+use Prim.Native.Nat.{ℕ, suc, _+_, _-_, _≤_, _<_}
+use native.Mathlib.Nat.{sub-zero}
+use native.Mathlib.Omega.{arith}
+use mathlib.Core.Path.{_≡_, refl, ap, sym, _∙_}
+use mathlib.Core.List.{List, [], _∷_}
+use lib.IntN.{ℤ, pos, _+ℤ_, +ℤ-assoc}
+use lib.ListN.{length}
+use Rattle.integer.proofs.Difference.{view, toℕ}
+use Rattle.line.specs.Line.{part, faultOf}
+use Rattle.text.specs.declared.refusal.Fault.{Fault}
+use Rattle.line.specs.declared.Line.{Line}
+use Rattle.line.specs.declared.Line.the-variants as line
+use Rattle.line.specs.Field.{Answer, got, refused}
+use Rattle.adder.specs.Sums.{noSums, plus}
+use Rattle.adder.specs.declared.sums.Sums.{Sums}
+use Rattle.resource.specs.Resource.{afterAnswer, resourceAt}
+use Rattle.sums.specs.Range.{SumsWithin}
+use Rattle.sums.specs.Sums.{partOf, sumsOf}
+use Rattle.snapshot.specs.Snapshot.{Entry, newIdAt, withEntry, resourcesAt, summed, resourcesAnswer}
+use Rattle.snapshot.specs.Ids.{idsAbove, IdTable, IdKept, Room}
+use Rattle.resource.specs.declared.Resource.{Resource}
+use Rattle.snapshot.specs.declared.resources.Resources.{Resources}
+use Rattle.snapshot.specs.declared.resources.Resources.the-variants as resources
+use Rattle.sums.proofs.Parts.{part-within, plus-within, none-within}
+use Rattle.resource.proofs.Readings.{resource-read, followed}
+
+-- ---- sums add up
+
+plus-none : (s : Sums) → plus s noSums ≡ s
+unfolding plus
+plus-none s = rw (add-none (s .generation), add-none (s .controllable), add-none (s .offline), add-none (s .validated), add-none (s .responsive))
+  where
+    add-none : (x : ℤ) → x +ℤ pos 0 ≡ x
+    add-none x = rw (view x) (simp toℕ (omega arith))
+
+none-plus : (s : Sums) → plus noSums s ≡ s
+unfolding plus
+none-plus s = rw (none-add (s .generation), none-add (s .controllable), none-add (s .offline), none-add (s .validated), none-add (s .responsive))
+  where
+    none-add : (x : ℤ) → pos 0 +ℤ x ≡ x
+    none-add x = rw (view x) (simp toℕ (omega arith))
+
+plus-assoc : (a b c : Sums) → plus (plus a b) c ≡ plus a (plus b c)
+unfolding plus
+plus-assoc a b c = simp +ℤ-assoc
+
+-- sums with those of an answer added
+abbrev added : Sums → Answer Sums → Answer Sums
+added s (got t next) = got (plus s t) next
+added s (refused found) = refused found
+
+added-none : (a : Answer Sums) → added noSums a ≡ a
+added-none (got t next) = rw none-plus
+added-none (refused found) = refl
+
+added-twice : (s t : Sums) (a : Answer Sums) → added s (added t a) ≡ added (plus s t) a
+added-twice s t (got u next) = rw plus-assoc
+added-twice s t (refused found) = refl
+
+-- one more resource adds its part
+summed-more : (id : List ℕ) (one : Resource) (a : Answer (List Entry)) → summed (afterAnswer a (λ others last. got (withEntry id one others) last)) ≡ added (partOf one) (summed a)
+unfolding sumsOf
+summed-more id one (got others last) = refl
+summed-more id one (refused found) = refl
+
+-- ---- the resources under way
+
+-- n of them are read: their sums, their ids in the table, and the rest is due at a position
+pub record Summing
+    (text : List ℕ) (at count : ℕ) (links₀ starts₀ ends₀ heads links starts ends : List ℕ) (sums : Sums) (next n : ℕ) : Type 0 where
+  pub due : n ≤ count
+  pub room : Room count links starts ends
+  pub links-long : length links ≡ length links₀
+  pub starts-long : length starts ≡ length starts₀
+  pub ends-long : length ends ≡ length ends₀
+  pub table : IdTable text heads links starts ends n
+  pub within : SumsWithin n sums
+  pub rest :
+      summed (resourcesAt resourceAt count [] text at) ≡
+      added sums (summed (resourcesAt resourceAt (count - n) (idsAbove text starts ends n) text next))
+
+pub summing-start :
+    (text : List ℕ) (at count : ℕ) {heads links starts ends : List ℕ} → IdTable text heads links starts ends 0 → Room count links starts ends →
+    Summing text at count links starts ends heads links starts ends noSums at 0
+unfolding idsAbove
+summing-start text at count table room =
+    record {
+      due = omega arith;
+      room = room;
+      links-long = refl;
+      starts-long = refl;
+      ends-long = refl;
+      table = table;
+      within = none-within;
+      rest = rw (sub-zero, added-none);
+    }
+
+module _
+    {text : List ℕ} {at count : ℕ} {links₀ starts₀ ends₀ heads links starts ends : List ℕ} {sums : Sums} {next n : ℕ}
+    (so-far : Summing text at count links₀ starts₀ ends₀ heads links starts ends sums next n) where
+  pub summing-over : count ≤ n → got sums next ≡ summed (resourcesAt resourceAt count [] text at)
+  unfolding resourcesAt sumsOf
+  summing-over h = let z : count - n ≡ 0 = omega arith in rw (so-far .rest, z, plus-none)
+
+  module _ (more : n < count) where
+    one-due :
+        summed (resourcesAt resourceAt count [] text at) ≡
+        added sums (summed (afterAnswer (newIdAt (idsAbove text starts ends n) text next)
+        (λ id after. afterAnswer (resourceAt text after)
+        (λ one last. afterAnswer (resourcesAt resourceAt (count - (n + 1)) (id ∷ idsAbove text starts ends n) text last)
+        (λ others end. got (withEntry id one others) end)))))
+    unfolding resourcesAt
+    one-due = let e : count - n ≡ suc (count - (n + 1)) = omega arith in rw (so-far .rest, e)
+
+    module _ {heads′ links′ starts′ ends′ : List ℕ} {found : Line} (kept : IdKept text next n starts ends heads′ links′ starts′ ends′ found) where
+      -- the id's line is refused, or the id stands above
+      pub summing-id : {fault told : Fault} → found ≡ line.Refused told → fault ≡ faultOf found → refused fault ≡ summed (resourcesAt resourceAt count [] text at)
+      summing-id is says = rw (one-due, ← kept .answers, says, is)
+
+      module _
+          {start end after : ℕ} (id-told : found ≡ line.Value start end after) (answer : Resources)
+          (read : resourcesAnswer answer ≡ afterAnswer (resourceAt text after) (λ one last. got (plus sums (partOf one)) last)) where
+        resource-due :
+            summed (resourcesAt resourceAt count [] text at) ≡
+            added sums (summed (afterAnswer (resourceAt text after)
+            (λ one last. afterAnswer (resourcesAt resourceAt (count - (n + 1)) (part text start end ∷ idsAbove text starts ends n) text last)
+            (λ others end′. got (withEntry (part text start end) one others) end′))))
+        resource-due = rw (one-due, ← kept .answers, id-told)
+
+        -- a line of the resource is refused
+        pub summing-refused : {told : Fault} → answer ≡ resources.Refused told → resourcesAnswer answer ≡ summed (resourcesAt resourceAt count [] text at)
+        summing-refused {told} is = go (resourceAt text after) refl (sym read ∙ ap resourcesAnswer is)
+          where
+            go :
+                (a : Answer Resource) → resourceAt text after ≡ a → afterAnswer a (λ one last. got (plus sums (partOf one)) last) ≡ refused told →
+                resourcesAnswer answer ≡ summed (resourcesAt resourceAt count [] text at)
+            go (got one last) e p = let z : _≡_ {A = ℕ} 0 1 = cc in absurd (omega arith)
+            go (refused found′) e p = rw (resource-due, read, e)
+
+        summing-read :
+            {one : Resource} {sums′ : Sums} {last : ℕ} → resourceAt text after ≡ got one last → sums′ ≡ plus sums (partOf one) → length links′ ≡ length links →
+            length starts′ ≡ length starts → length ends′ ≡ length ends →
+            Summing text at count links₀ starts₀ ends₀ heads′ links′ starts′ ends′ sums′ last (n + 1)
+        summing-read {one} {sums′} {last} is s l b e =
+            record {
+              due = omega arith;
+              room =
+                  record {
+                    few = so-far .room .few;
+                    links-room = omega (arith, l, so-far .room .links-room);
+                    starts-room = omega (arith, b, so-far .room .starts-room);
+                    ends-room = omega (arith, e, so-far .room .ends-room);
+                  };
+              links-long = l ∙ so-far .links-long;
+              starts-long = b ∙ so-far .starts-long;
+              ends-long = e ∙ so-far .ends-long;
+              table = kept .table start end after id-told;
+              within = rw s (plus-within n 1 (so-far .within) (part-within one (resource-read text after is)));
+              rest =
+                  resource-due
+                  ∙ rw (is, s, kept .above start end after id-told)
+                  (ap (added sums) (summed-more (part text start end) one (resourcesAt resourceAt (count - (n + 1)) (part text start end ∷ idsAbove text starts ends n) text last))
+                  ∙ added-twice sums (partOf one) (summed (resourcesAt resourceAt (count - (n + 1)) (part text start end ∷ idsAbove text starts ends n) text last)));
+            }
+
+        -- one more resource is read
+        pub summing-more :
+            {sums′ : Sums} {last : ℕ} → answer ≡ resources.Read sums′ last → length links′ ≡ length links → length starts′ ≡ length starts →
+            length ends′ ≡ length ends → Summing text at count links₀ starts₀ ends₀ heads′ links′ starts′ ends′ sums′ last (n + 1)
+        summing-more {sums′} {last} is l b e =
+            let f = followed (resourceAt text after) (λ one next. got (plus sums (partOf one)) next) (sym read ∙ ap resourcesAnswer is) in
+            let one : resourceAt text after ≡ got (f .one) last = cc (f .given, f .then) in
+            let s : sums′ ≡ plus sums (partOf (f .one)) = cc (f .then) in
+            summing-read one s l b e

@@ -1,0 +1,33 @@
+use mathlib.Core.Path.{refl}
+use lib.Dec.{lit≤}
+use lib.ListN.{replicate}
+use Rattle.snapshot.proofs.Buckets.{table-none, room}
+use Rattle.snapshot.proofs.many_resources.Statement.{statement}
+use Rattle.snapshot.proofs.many_resources.Tie as tie
+
+slice-aggregate-resources-at : tie.Need-slice-aggregate-resources-at
+slice-aggregate-resources-at c = refl
+
+slice-aggregate-resources-at-2 : tie.Need-slice-aggregate-resources-at-2
+slice-aggregate-resources-at-2 c = refl
+
+slice-aggregate-resources-at-3 : tie.Need-slice-aggregate-resources-at-3
+slice-aggregate-resources-at-3 c = refl
+
+resources-at-requires : tie.Need-resources-at-requires
+resources-at-requires c κs =
+    let start = c .before .before .before .before .before in
+    (table-none (start .args .text .now) (replicate 4096 0) (replicate 4096 0) (replicate 4096 0), room (start .args .count) 4096 (start .pre) (lit≤ tt))
+
+returns : tie.Need-returns
+returns c = c .before .before .before .resources-at .ensures
+
+pub many-resources-spec : {M : Type 1} → statement M
+many-resources-spec =
+    tie.close
+    (tie.spec
+    slice-aggregate-resources-at
+    slice-aggregate-resources-at-2
+    slice-aggregate-resources-at-3
+    resources-at-requires
+    returns)

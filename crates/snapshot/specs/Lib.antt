@@ -1,0 +1,3 @@
+-- Document 01, "Snapshot to reserves": the snapshot text.
+pub mod Snapshot
+pub mod Ids

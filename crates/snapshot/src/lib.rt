@@ -1,0 +1,114 @@
+// A snapshot's text: its header, and the sums of its resources.
+mod header;
+mod ids;
+mod resources;
+
+ghost use mathlib.Core.Path.{_≡_};
+ghost use mathlib.Core.List.{[]};
+ghost use Prim.Native.Nat.{_≤_};
+ghost use lib.IntN.{natAbs};
+ghost use Rattle.resource.specs.Resource.{resourceAt};
+ghost use Rattle.snapshot.specs.Snapshot.{resourcesAt, summed, resourcesAnswer, afterResources, snapshotIn, snapshotSums};
+use crate::header::header_at;
+use crate::header::header_of;
+use crate::resources::Resources;
+use crate::resources::resources_at;
+use adder::sums::Header;
+use adder::sums::Sums;
+use block::Block;
+use integer::magnitude;
+use line::End;
+use line::end_at;
+use text::refusal::Refusal;
+use text::refusal::refusal_of;
+
+// The header and the sums of a snapshot, or why it is turned back.
+pub enum Snapshot {
+    Read { header: Header, sums: Sums },
+    Refused(Refusal),
+}
+
+// The resources where they are few: the table of their ids is small.
+fn few_resources(text: &[u8], at: usize, count: usize) -> Resources
+    requires { ⌜ count ≤ 64 ⌝ }
+    ensures { λ r. ⌜ resourcesAnswer r ≡ summed (resourcesAt resourceAt count [] (now (text .entry)) at) ⌝ }
+{
+    let mut heads = [0u16; 1024];
+    let mut links = [0u16; 64];
+    let mut starts = [0usize; 64];
+    let mut ends = [0usize; 64];
+    resources_at(
+        text,
+        at,
+        count,
+        &mut heads,
+        &mut links,
+        &mut starts,
+        &mut ends,
+    )
+}
+
+// The resources where they may be many.
+fn many_resources(text: &[u8], at: usize, count: usize) -> Resources
+    requires { ⌜ count ≤ 4096 ⌝ }
+    ensures { λ r. ⌜ resourcesAnswer r ≡ summed (resourcesAt resourceAt count [] (now (text .entry)) at) ⌝ }
+{
+    let mut heads = [0u16; 1024];
+    let mut links = [0u16; 4096];
+    let mut starts = [0usize; 4096];
+    let mut ends = [0usize; 4096];
+    resources_at(
+        text,
+        at,
+        count,
+        &mut heads,
+        &mut links,
+        &mut starts,
+        &mut ends,
+    )
+}
+
+fn counted_resources(text: &[u8], at: usize, count: usize) -> Resources
+    requires { ⌜ count ≤ 4096 ⌝ }
+    ensures { λ r. ⌜ resourcesAnswer r ≡ summed (resourcesAt resourceAt count [] (now (text .entry)) at) ⌝ }
+{
+    if count <= 64 {
+        return few_resources(text, at, count);
+    }
+    many_resources(text, at, count)
+}
+
+// What follows a header that ends at a position.
+fn after_header(text: &[u8], header: Header, at: usize) -> Snapshot
+    requires { ⌜ natAbs (header .count) ≤ 4096 ⌝ }
+    ensures { λ r.
+        ⌜ r ≡ snapshotSums (afterResources (now (text .entry)) header (resourcesAt resourceAt (natAbs (header .count)) [] (now (text .entry)) at)) ⌝ }
+{
+    let count = magnitude(header.count) as usize;
+    let r = counted_resources(text, at, count);
+    match r {
+        Resources::Refused(fault) => return Snapshot::Refused(refusal_of(text, fault)),
+        Resources::Read { sums, next } => {
+            let e = end_at(text, next);
+            match e {
+                End::Refused(fault) => return Snapshot::Refused(refusal_of(text, fault)),
+                End::Reached => return Snapshot::Read { header, sums },
+            }
+        }
+    }
+}
+
+// A snapshot's text read.
+pub fn read_snapshot(text: &[u8]) -> Snapshot
+    ensures { λ r. ⌜ r ≡ snapshotSums (snapshotIn (now (text .entry))) ⌝ }
+{
+    if 1048576 < text.len() {
+        return Snapshot::Refused(Refusal { number: 2, line: 0 });
+    }
+    let mut v = [0i64; 8];
+    let b = header_at(text, &mut v);
+    match b {
+        Block::Refused(fault) => return Snapshot::Refused(refusal_of(text, fault)),
+        Block::Read { next } => return after_header(text, header_of(v), next),
+    }
+}

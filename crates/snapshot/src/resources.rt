@@ -1,0 +1,103 @@
+// The resources of a snapshot, one after the other: each id is new, and each resource's part is added to the sums.
+ghost use mathlib.Core.Path.{_≡_};
+ghost use mathlib.Core.List.{[]};
+ghost use Rattle.adder.specs.Sums.{plus};
+ghost use Rattle.line.specs.Field.{got};
+ghost use Rattle.sums.specs.Range.{SumsWithin};
+ghost use Rattle.sums.specs.Sums.{partOf};
+ghost use Rattle.resource.specs.Resource.{afterAnswer, resourceAt};
+ghost use Rattle.snapshot.specs.Snapshot.{resourcesAt, summed, resourcesAnswer};
+ghost use Rattle.snapshot.specs.Ids.{IdTable, Room};
+use crate::ids::new_id;
+use adder::sums::Sums;
+use line::Line;
+use line::fault_of;
+use resource::ResourceLines;
+use resource::resource_at;
+use sums::part_of;
+use text::refusal::Fault;
+
+// The sums of the resources and where their lines end, or the refused line.
+pub enum Resources {
+    Read { sums: Sums, next: usize },
+    Refused(Fault),
+}
+
+// The sums with one resource's part added.
+fn plus(sums: Sums, part: Sums) -> Sums
+    requires { ⌜ SumsWithin 4095 sums ⌝ ∗ ⌜ SumsWithin 1 part ⌝ }
+    ensures { λ r. ⌜ r ≡ plus sums part ⌝ }
+{
+    Sums {
+        generation: sums.generation + part.generation,
+        controllable: sums.controllable + part.controllable,
+        offline: sums.offline + part.offline,
+        validated: sums.validated + part.validated,
+        responsive: sums.responsive + part.responsive,
+    }
+}
+
+// The resource due at a position, its part added to the sums.
+fn with_resource(text: &[u8], at: usize, sums: Sums) -> Resources
+    requires { ⌜ SumsWithin 4095 sums ⌝ }
+    ensures { λ r.
+        ⌜ resourcesAnswer r ≡ afterAnswer (resourceAt (now (text .entry)) at) (λ one next. got (plus sums (partOf one)) next) ⌝ }
+{
+    let r = resource_at(text, at);
+    match r {
+        ResourceLines::Refused(fault) => return Resources::Refused(fault),
+        ResourceLines::Read { resource, next } => {
+            return Resources::Read {
+                sums: plus(sums, part_of(resource)),
+                next,
+            };
+        }
+    }
+}
+
+// The resources from a position on, their ids kept in a table that is empty.
+pub(crate) fn resources_at(
+    text: &[u8],
+    at: usize,
+    count: usize,
+    heads: &mut [u16; 1024],
+    links: &mut [u16],
+    starts: &mut [usize],
+    ends: &mut [usize],
+) -> Resources
+    requires { ⌜ IdTable (now text) (now heads) (now links) (now starts) (now ends) 0 ⌝ ∗ ⌜ Room count (now links) (now starts) (now ends) ⌝ }
+    ensures { λ r. ⌜ resourcesAnswer r ≡ summed (resourcesAt resourceAt count [] (now (text .entry)) at) ⌝ }
+{
+    let mut sums = Sums {
+        generation: 0,
+        controllable: 0,
+        offline: 0,
+        validated: 0,
+        responsive: 0,
+    };
+    let mut next = at;
+    let mut n: usize = 0;
+    while n < count {
+        let l = new_id(text, next, heads, links, starts, ends, n);
+        let Line::Value {
+            start: _,
+            end: _,
+            next: after,
+        } = l
+        else {
+            return Resources::Refused(fault_of(l));
+        };
+        let r = with_resource(text, after, sums);
+        let Resources::Read {
+            sums: more,
+            next: last,
+        } = r
+        else {
+            return r;
+        };
+        sums = more;
+        next = last;
+        n += 1;
+    }
+    Resources::Read { sums, next }
+}

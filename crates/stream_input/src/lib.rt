@@ -1,0 +1,4 @@
+// The stream fed with parts of the input.
+mod taken;
+
+pub use taken::byte::feed::feed;

@@ -1,0 +1,98 @@
+// One case of a number, a word, an id or a block: the text is read, and what was read or the refusal is shown.
+use crate::show::show;
+use crate::show::show_byte;
+use crate::show::show_count;
+use crate::show::show_fault;
+use crate::show::show_next;
+use crate::show::show_number;
+use block::block_fault;
+use block::read_block;
+use id::id_at;
+use line::Line;
+use line::end_at;
+use line::end_fault;
+use line::part;
+use number::NumberLine;
+use number::number_at;
+use text::refusal::Fault;
+use word::WordLine;
+use word::word_at;
+
+pub(crate) fn number_case(text: &[u8], at: usize, low: i64, high: i64) {
+    let l = number_at(text, at, b"x=", low, high);
+    match l {
+        NumberLine::Value { value, next } => {
+            show(b"value=");
+            show_number(value);
+            show_next(next);
+        }
+        NumberLine::Refused(fault) => show_fault(text, fault),
+    }
+}
+
+pub(crate) fn word_case(text: &[u8]) {
+    let l = word_at(
+        text,
+        0,
+        b"status=",
+        b"ON\nOFF\nOFFNS\nONTEST\nSTARTUP\nSHUTDOWN\nOUT\n",
+    );
+    match l {
+        WordLine::Index { index, next } => {
+            show(b"index=");
+            show_count(index);
+            show_next(next);
+        }
+        WordLine::Refused(fault) => show_fault(text, fault),
+    }
+}
+
+pub(crate) fn id_case(text: &[u8], key: &[u8]) {
+    let l = id_at(text, 0, key);
+    match l {
+        Line::Value { start, end, next } => {
+            show(b"id=");
+            show(part(text, start, end));
+            show_next(next);
+        }
+        Line::Refused(fault) => show_fault(text, fault),
+    }
+}
+
+// The values, each after its mark: `=`, then commas.
+fn show_values(values: &[i64]) {
+    show(b"values");
+    let mut mark = b'=';
+    let mut i: usize = 0;
+    while i < values.len() {
+        show_byte(mark);
+        show_number(values[i]);
+        mark = b',';
+        i += 1;
+    }
+}
+
+// The values are shown where the block was read and the text ends with it. No refusal has the number 0: `block_fault` gives it, with the position
+// after the block, for a block that was read, and `end_fault` for an end that was reached.
+fn show_block(text: &[u8], read: Fault, values: &[i64]) {
+    if read.number != 0 {
+        show_fault(text, read);
+        return;
+    }
+    let next = read.at;
+    let end = end_fault(end_at(text, next));
+    if end.number != 0 {
+        show_fault(text, end);
+        return;
+    }
+    show_values(values);
+    show_next(next);
+}
+
+pub(crate) fn block_case(text: &[u8]) {
+    let lows = [1i64, 0, -20];
+    let highs = [12i64, 23, 20];
+    let mut values = [0i64; 3];
+    let read = read_block(text, 0, b"month=hour=tie=", &lows, &highs, &mut values);
+    show_block(text, block_fault(read), &values);
+}

@@ -1,0 +1,32 @@
+// The cases of the writer: one block, written into buffers of full stops.
+use crate::show::show;
+use crate::show::show_byte;
+use crate::show::show_count;
+use writer::Written;
+use writer::write_block;
+
+fn show_written(written: Written) {
+    match written {
+        Written::Ended { next } => {
+            show(b"written=");
+            show_count(next);
+        }
+        Written::Short => show(b"refused=14 line=0"),
+    }
+}
+
+fn write_case(buffer: &mut [u8]) {
+    let values = [7i64, 14, -3];
+    show_written(write_block(buffer, 0, b"month=hour=tie=", &values));
+    show_byte(b'\n');
+    show(buffer);
+    show_byte(b'\n');
+}
+
+// A buffer of at most 26 bytes.
+pub(crate) fn write_into(length: usize) {
+    let mut buffer = [46u8; 26];
+    if length <= 26 {
+        write_case(&mut buffer[..length]);
+    }
+}

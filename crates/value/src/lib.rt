@@ -1,4 +1,0 @@
-// The kinds of value that a line holds: numbers, words and ids.
-pub mod id;
-pub mod number;
-pub mod word;

@@ -1,0 +1,2 @@
+-- Laws that the proofs of several functions share, and that crates above cite.
+pub mod Words

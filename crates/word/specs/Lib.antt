@@ -1,0 +1,2 @@
+-- Document 01, "Texts": listed words.
+pub mod Word

@@ -1,0 +1,75 @@
+-- `block::write::output::write_refusal` meets its contract: the length is known before a byte is written.
+use Prim.Native.Nat.{ℕ, _+_}
+use native.Mathlib.Nat.{zero-add}
+use lib.ListN.{length}
+use Rattle.writer.specs.Output.{refusalLines}
+use Rattle.writer.proofs.Refused.{twenty-digits, refusal-length}
+use Rattle.writer.proofs.Writing.{text-short, text-stands}
+use native.Mathlib.Omega.{arith}
+use borrow.Author.Needs.{needs}
+use Rattle.writer.proofs.output.write_refusal.Statement.{statement}
+use Rattle.writer.proofs.output.write_refusal.Tie as tie
+use Rattle.writer.proofs.output.write_refusal.Reads as reads
+use Rattle.writer.proofs.output.write_refusal.Lts as lts
+use Rattle.writer.proofs.digit_count.Reads as digit-count-reads
+use Rattle.writer.proofs.output.put_refusal.Reads as put-refusal-reads
+
+digit-count-requires : tie.Need-digit-count-requires
+digit-count-requires c κs = search needs
+
+add-length : tie.Need-add-length
+add-length c =
+    let s = c .before .before .before in
+    omega (arith, c .digit-count .ensures, twenty-digits (s .args .found .number) (omega arith))
+
+digit-count-requires-2 : tie.Need-digit-count-requires-2
+digit-count-requires-2 c κs = search needs
+
+add-length-2 : tie.Need-add-length-2
+add-length-2 c =
+    let s = c .before .before .before .before in
+    omega (arith, c .before .digit-count .ensures, c .digit-count2 .ensures, twenty-digits (s .args .found .number) (omega arith), twenty-digits (s .args .found .line) (omega arith))
+
+add-length-3 : tie.Need-add-length-3
+add-length-3 c =
+    let s = c .before .before .before .before in
+    omega (arith, c .before .digit-count .ensures, c .digit-count2 .ensures, twenty-digits (s .args .found .number) (omega arith), twenty-digits (s .args .found .line) (omega arith))
+
+returns : tie.Need-returns
+returns c =
+    let s = c .before .before .before .before .before in
+    text-short (refusalLines (s .args .found) (s .args .name .now)) (s .args .buffer .now) 0
+    (omega (arith, refusal-length (s .args .found) (s .args .name .now), c .before .digit-count2 .ensures, c .before .before .digit-count .ensures))
+
+put-refusal-requires : tie.Need-put-refusal-requires
+put-refusal-requires c κs =
+    let s = c .before .before .before .before .before .before in
+    omega (arith, refusal-length (s .args .found) (s .args .name .now), c .before .before .digit-count2 .ensures, c .before .before .before .digit-count .ensures)
+
+same-length : tie.Need-same-length
+same-length c = c .before .before .put-refusal .kept .0
+
+returns-2 : tie.Need-returns-2
+returns-2 c =
+    let s = c .before .before .before .before .before .before .before .before .before in
+    let d2 = c .before .before .before .before .before in
+    let n : ℕ = 21 + d2 .before .digit-count .result + d2 .digit-count2 .result + length (s .args .name .now) in
+    rw (zero-add n) at
+    (text-stands (refusalLines (s .args .found) (s .args .name .now)) (s .args .buffer .now) 0 n (c .before .before .put-refusal .last .0)
+    (omega (arith, refusal-length (s .args .found) (s .args .name .now), d2 .digit-count2 .ensures, d2 .before .digit-count .ensures))
+    (omega (arith, refusal-length (s .args .found) (s .args .name .now), d2 .digit-count2 .ensures, d2 .before .digit-count .ensures, c .before .before .before .before .if1 .left))
+    (c .before .before .put-refusal .ensures))
+
+pub write-refusal-spec : {M : Type 1} → statement M
+write-refusal-spec =
+    tie.close
+    (tie.spec
+    digit-count-requires
+    add-length
+    digit-count-requires-2
+    add-length-2
+    add-length-3
+    returns
+    put-refusal-requires
+    same-length
+    returns-2)
