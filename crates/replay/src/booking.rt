@@ -2,12 +2,10 @@
 use crate::expansion::text_at;
 use crate::groups::record_at;
 use crate::number::number_at;
-use crate::output::line_space;
-use crate::output::put_bytes;
-use crate::output::put_curves;
-use crate::output::put_record;
-use crate::output::put_refusal;
 use crate::output::show;
+use crate::output::show_record;
+use crate::output::show_refusal;
+use crate::output::show_set;
 use curve_set::Curves;
 use curve_set::answer::Answer;
 use history::Booking;
@@ -42,50 +40,40 @@ fn is_same(one: Record, other: Record) -> bool {
 }
 
 // The line of a booking. A refusal has to leave the record as it was.
-fn put_booking(out: &mut [u8], before: Record, booking: Booking) -> usize {
+fn show_booking(before: Record, booking: Booking) {
     let answer = booking.answer;
     let after = booking.history;
     let Answer::Refused(refusal) = answer else {
-        let end = put_bytes(out, 0, b"accepted");
-        return put_record(out, end, after);
+        show(b"accepted");
+        show_record(after);
+        return;
     };
     if !is_same(before, after) {
-        return put_bytes(out, 0, b"refused, and the record changed");
+        show(b"refused, and the record changed");
+        return;
     }
-    put_refusal(out, refusal)
-}
-
-fn show_booking(before: Record, text: &[u8]) {
-    let mut line = line_space();
-    let out: &mut [u8] = &mut line;
-    let end = put_booking(out, before, book(before, text));
-    show(out, end);
+    show_refusal(refusal);
 }
 
 pub(crate) fn book_case(cases: &[u8], at: usize, text: &mut [u8]) -> usize {
     let stored = record_at(cases, at);
     let expanded = text_at(cases, stored.next, text);
     let before = stored.history;
-    show_booking(before, part(text, 0, expanded.end));
+    show_booking(before, book(before, part(text, 0, expanded.end)));
+    show(b"\n");
     expanded.next
 }
 
 // The line of curves that were settled or read.
-fn put_answer(out: &mut [u8], curves: Curves) -> usize {
+pub(crate) fn show_curves(curves: Curves) {
     let answer = curves.answer;
     let Answer::Refused(refusal) = answer else {
         let set = curves.set;
-        let end = put_bytes(out, 0, b"accepted");
-        return put_curves(out, end, set);
+        show(b"accepted");
+        show_set(set);
+        return;
     };
-    put_refusal(out, refusal)
-}
-
-pub(crate) fn show_curves(curves: Curves) {
-    let mut line = line_space();
-    let out: &mut [u8] = &mut line;
-    let end = put_answer(out, curves);
-    show(out, end);
+    show_refusal(refusal);
 }
 
 pub(crate) fn settle_case(cases: &[u8], at: usize) -> usize {
@@ -94,5 +82,6 @@ pub(crate) fn settle_case(cases: &[u8], at: usize) -> usize {
     let floor = number_at(cases, voll.next);
     let history = stored.history;
     show_curves(settle(history, voll.value, floor.value));
+    show(b"\n");
     floor.next
 }

@@ -4,11 +4,9 @@ use crate::expansion::text_at;
 use crate::groups::curves_at;
 use crate::number::count_at;
 use crate::number::wide;
-use crate::output::line_space;
-use crate::output::put_bytes;
-use crate::output::put_count;
-use crate::output::put_refusal;
 use crate::output::show;
+use crate::output::show_count;
+use crate::output::show_refusal;
 use curve::WrittenCurves;
 use curve::read_curves;
 use curve::write_curves;
@@ -18,6 +16,7 @@ use line::part;
 pub(crate) fn read_case(cases: &[u8], at: usize, text: &mut [u8]) -> usize {
     let expanded = text_at(cases, at, text);
     show_curves(read_curves(part(text, 0, expanded.end)));
+    show(b"\n");
     expanded.next
 }
 
@@ -46,32 +45,25 @@ fn checksum(buffer: &[u8]) -> u64 {
 }
 
 // The line of a writing, up to the checksum.
-fn put_written(out: &mut [u8], written: WrittenCurves) -> usize {
+fn show_written(written: WrittenCurves) {
     match written {
         WrittenCurves::Length(length) => {
-            let end = put_bytes(out, 0, b"accepted");
-            put_count(out, end, length as u64)
+            show(b"accepted");
+            show_count(length as u64);
         }
         WrittenCurves::Refused(refusal) => {
-            let end = put_refusal(out, refusal);
-            put_bytes(out, end, b" buffer")
+            show_refusal(refusal);
+            show(b" buffer");
         }
     }
 }
 
 // The line of a writing, with the checksum of the whole buffer.
-fn show_written(written: WrittenCurves, sum: u64) {
-    let mut line = line_space();
-    let out: &mut [u8] = &mut line;
-    let from = put_written(out, written);
-    let end = put_count(out, from, sum);
-    show(out, end);
-}
-
 fn write_into(set: CurveSet, buffer: &mut [u8]) {
     fill(buffer);
-    let written = write_curves(set, buffer);
-    show_written(written, checksum(buffer));
+    show_written(write_curves(set, buffer));
+    show_count(checksum(buffer));
+    show(b"\n");
 }
 
 // Room for the longest buffer.

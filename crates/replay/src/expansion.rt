@@ -1,12 +1,20 @@
 // Texts of the case file, laid out in a lent buffer: pieces, each a number of times, where `#` stands for the number of the repeat.
 use crate::number::count_at;
-use crate::output::put_byte;
 use line::part;
 
 // Where the text ends in the buffer, and where the next part starts in the file.
 pub struct Expanded {
     pub end: usize,
     pub next: usize,
+}
+
+// A byte, and where the next one goes. What would pass the end of the text is left out.
+fn put_byte(text: &mut [u8], at: usize, byte: u8) -> usize {
+    if text.len() <= at {
+        return at;
+    }
+    text[at] = byte;
+    at + 1
 }
 
 fn digit(n: u64) -> u8 {

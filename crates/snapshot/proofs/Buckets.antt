@@ -18,14 +18,14 @@ use Rattle.snapshot.specs.Ids.{bucketFrom, bucketOf, idOf, idsAbove, Lat
 
 pub record BucketFrom (id : List ℕ) (bucket i : ℕ) : Type 0 where
   pub within : i ≤ length id
-  pub small : bucket < 1024
+  pub small : bucket < 4096
   pub rest : bucketOf id ≡ bucketFrom bucket (drop i id)
 
 pub bucket-start : (id : List ℕ) → BucketFrom id 0 0
 bucket-start id = record { within = omega arith; small = omega arith; rest = refl }
 
 module _ {id : List ℕ} {bucket i : ℕ} (from : BucketFrom id bucket i) where
-  pub bucket-more : i < length id → BucketFrom id ((bucket * 31 + getD id i 0) % 1024) (i + 1)
+  pub bucket-more : i < length id → BucketFrom id ((bucket * 31 + getD id i 0) % 4096) (i + 1)
   unfolding bucketFrom
   bucket-more h = record { within = omega arith; small = omega arith; rest = rw (from .rest, add-one, drop-cons id i 0 h) }
 
@@ -33,12 +33,12 @@ module _ {id : List ℕ} {bucket i : ℕ} (from : BucketFrom id bucket i) where
   unfolding bucketFrom
   bucket-over h = rw (from .rest, drop-of-length-le id {i = i} h)
 
-bucket-below : (front : ℕ) (id : List ℕ) → front < 1024 → bucketFrom front id < 1024
+bucket-below : (front : ℕ) (id : List ℕ) → front < 4096 → bucketFrom front id < 4096
 unfolding bucketFrom
 bucket-below front [] h = h
-bucket-below front (byte ∷ rest) h = bucket-below ((front * 31 + byte) % 1024) rest (omega arith)
+bucket-below front (byte ∷ rest) h = bucket-below ((front * 31 + byte) % 4096) rest (omega arith)
 
-pub bucket-small : (id : List ℕ) → bucketOf id < 1024
+pub bucket-small : (id : List ℕ) → bucketOf id < 4096
 bucket-small id = bucket-below 0 id (omega arith)
 
 -- ---- two ids, byte by byte
@@ -206,7 +206,7 @@ module _ (text starts ends : List ℕ) (n start end : ℕ) (s-room : n < length 
 
   module _ {heads links : List ℕ} (table : IdTable text heads links starts ends n) (l-room : n < length links) where
     heads-more :
-        (b : ℕ) → b < 1024 → Latest text (set starts n start) (set ends n end) b (n + 1) (getD (set heads (bucketOf (part text start end)) (n + 1)) b 0)
+        (b : ℕ) → b < 4096 → Latest text (set starts n start) (set ends n end) b (n + 1) (getD (set heads (bucketOf (part text start end)) (n + 1)) b 0)
     heads-more b small = go (eqb b (bucketOf (part text start end))) refl
       where
         here : bucketOf (part text start end) < length heads
@@ -270,15 +270,15 @@ module _ (text starts ends : List ℕ) (n start end : ℕ) (s-room : n < length 
 
 -- ---- a table with no ids
 
-pub table-none : (text links starts ends : List ℕ) → IdTable text (replicate 1024 0) links starts ends 0
+pub table-none : (text links starts ends : List ℕ) → IdTable text (replicate 4096 0) links starts ends 0
 table-none text links starts ends =
     record {
-      buckets = length-replicate {A = ℕ} 1024 0;
+      buckets = length-replicate {A = ℕ} 4096 0;
       links-room = omega arith;
       starts-room = omega arith;
       ends-room = omega arith;
       latest = λ b small.
-          rw (getD-replicate {A = ℕ} 1024 b 0 0 small)
+          rw (getD-replicate {A = ℕ} 4096 b 0 0 small)
           (record { within = omega arith; others = λ k from below is. omega arith; same = λ k is. let z : _≡_ {A = ℕ} 0 (suc k) = is in absurd (omega arith) });
       linked = λ k below. absurd (omega arith);
     }

@@ -9,10 +9,10 @@ use Rattle.line.specs.declared.Line.the-variants as line
 use Rattle.id.specs.Id.{idAnswer}
 use Rattle.snapshot.specs.Snapshot.{newIdAt}
 
--- one of 1024 buckets, from the bytes of an id
+-- one of 4096 buckets, from the bytes of an id
 unfoldable pub bucketFrom : ℕ → List ℕ → ℕ
 bucketFrom front [] = front
-bucketFrom front (byte ∷ rest) = bucketFrom ((front * 31 + byte) % 1024) rest
+bucketFrom front (byte ∷ rest) = bucketFrom ((front * 31 + byte) % 4096) rest
 
 abbrev pub bucketOf : List ℕ → ℕ
 bucketOf id = bucketFrom 0 id
@@ -34,11 +34,11 @@ pub record Latest (text starts ends : List ℕ) (bucket n link : ℕ) : Type 0 w
 
 -- the table of the first n ids: the latest of each bucket, and for each id the latest before it in its own bucket
 pub record IdTable (text heads links starts ends : List ℕ) (n : ℕ) : Type 0 where
-  pub buckets : length heads ≡ 1024
+  pub buckets : length heads ≡ 4096
   pub links-room : n ≤ length links
   pub starts-room : n ≤ length starts
   pub ends-room : n ≤ length ends
-  pub latest : (b : ℕ) → b < 1024 → Latest text starts ends b n (getD heads b 0)
+  pub latest : (b : ℕ) → b < 4096 → Latest text starts ends b n (getD heads b 0)
   pub linked : (k : ℕ) → k < n → Latest text starts ends (bucketOf (idOf text starts ends k)) k (getD links k 0)
 
 -- places for as many ids as there are resources, at most 4096

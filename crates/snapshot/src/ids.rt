@@ -8,14 +8,14 @@ use line::Line;
 use line::part;
 use text::refusal::Fault;
 
-// The bucket of an id, below 1024.
+// The bucket of an id, below 4096.
 fn bucket_of(id: &[u8]) -> usize
     ensures { λ r. ⌜ r ≡ bucketOf (now (id .entry)) ⌝ }
 {
     let mut bucket: usize = 0;
     let mut i: usize = 0;
     while i < id.len() {
-        bucket = (bucket * 31 + id[i] as usize) % 1024;
+        bucket = (bucket * 31 + id[i] as usize) % 4096;
         i += 1;
     }
     bucket
@@ -41,7 +41,7 @@ fn same_bytes(id: &[u8], other: &[u8]) -> bool
 // Whether an id stands among the first n ones of a table.
 fn stands_above(
     text: &[u8],
-    heads: &[u16; 1024],
+    heads: &[u16; 4096],
     links: &[u16],
     starts: &[usize],
     ends: &[usize],
@@ -67,7 +67,7 @@ fn stands_above(
 pub(crate) fn new_id(
     text: &[u8],
     at: usize,
-    heads: &mut [u16; 1024],
+    heads: &mut [u16; 4096],
     links: &mut [u16],
     starts: &mut [usize],
     ends: &mut [usize],

@@ -33,7 +33,7 @@ fn few_resources(text: &[u8], at: usize, count: usize) -> Resources
     requires { ⌜ count ≤ 64 ⌝ }
     ensures { λ r. ⌜ resourcesAnswer r ≡ summed (resourcesAt resourceAt count [] (now (text .entry)) at) ⌝ }
 {
-    let mut heads = [0u16; 1024];
+    let mut heads = [0u16; 4096];
     let mut links = [0u16; 64];
     let mut starts = [0usize; 64];
     let mut ends = [0usize; 64];
@@ -53,7 +53,7 @@ fn many_resources(text: &[u8], at: usize, count: usize) -> Resources
     requires { ⌜ count ≤ 4096 ⌝ }
     ensures { λ r. ⌜ resourcesAnswer r ≡ summed (resourcesAt resourceAt count [] (now (text .entry)) at) ⌝ }
 {
-    let mut heads = [0u16; 1024];
+    let mut heads = [0u16; 4096];
     let mut links = [0u16; 4096];
     let mut starts = [0usize; 4096];
     let mut ends = [0usize; 4096];

@@ -60,7 +60,7 @@ pub(crate) fn resources_at(
     text: &[u8],
     at: usize,
     count: usize,
-    heads: &mut [u16; 1024],
+    heads: &mut [u16; 4096],
     links: &mut [u16],
     starts: &mut [usize],
     ends: &mut [usize],

@@ -37,7 +37,7 @@ bucket-of-requires c κs = tt
 bucket : (c : tie.After-bucket-of) → let at = c .before .before .before .l .given .0 in c .bucket-of .result ≡ bucketOf (part (c .before .before .before .before .before .before .before .before .before .before .before .args .text .now) (at .0) (at .1 .0))
 bucket c = c .bucket-of .ensures ∙ ap bucketOf (c .before .part .ensures)
 
-below : (c : tie.After-bucket-of) → c .bucket-of .result < 1024
+below : (c : tie.After-bucket-of) → c .bucket-of .result < 4096
 below c = omega (arith, bucket-small (c .before .part .result .now), c .bucket-of .ensures)
 
 stands-above-requires : tie.Need-stands-above-requires

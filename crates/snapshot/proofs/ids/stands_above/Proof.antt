@@ -13,7 +13,7 @@ Inv-loop text heads links starts ends n id bucket link₀ link = IdTable text he
 abbrev μ-loop : tie.MeasureT-loop
 μ-loop text heads links starts ends n id bucket link₀ link = link
 
-below : (c : tie.Start Inv-loop μ-loop) → c .args .bucket < 1024
+below : (c : tie.Start Inv-loop μ-loop) → c .args .bucket < 4096
 below c = omega (arith, bucket-small (c .args .id .now), c .pre .1)
 
 mul-link : tie.Need-mul-link Inv-loop μ-loop
