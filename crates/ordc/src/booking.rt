@@ -8,6 +8,7 @@ ghost use Rattle.block.specs.Block.{value};
 ghost use Rattle.record.specs.Record.{allPossible};
 ghost use Rattle.ordc.specs.Record.{countOf, recordOf, recordValues, HourBooked};
 use crate::refusal::Refusal;
+use crate::refusal::is_refusal;
 use crate::refusal::refusal_in;
 use history::book;
 use integer::magnitude;
@@ -99,7 +100,7 @@ pub extern "C" fn ordc_book(history: &mut [i64; 72], text: &[u8]) -> Refusal
     let booking = book(record_of(history), text);
     let answer = booking.answer;
     let found = refusal_in(answer);
-    if found.number != 0 {
+    if is_refusal(found) {
         return found;
     }
     let changed = booking.history;

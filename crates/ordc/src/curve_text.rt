@@ -2,6 +2,7 @@
 ghost use mathlib.Core.Path.{_≡_};
 ghost use Rattle.ordc.specs.CurveText.{CurvesRead};
 use crate::refusal::Refusal;
+use crate::refusal::is_refusal;
 use crate::refusal::refusal_in;
 use curve::read_curves;
 use curve_values::values_of;
@@ -16,7 +17,7 @@ pub extern "C" fn ordc_read_curves(text: &[u8], curves: &mut [i64; 50]) -> Refus
     let read = read_curves(text);
     let answer = read.answer;
     let found = refusal_in(answer);
-    if found.number != 0 {
+    if is_refusal(found) {
         return found;
     }
     let set = read.set;

@@ -2,6 +2,7 @@
 ghost use mathlib.Core.Path.{_≡_};
 ghost use Rattle.ordc.specs.Price.{pricingAnswer, pricingValues, SmallPricing, SnapshotPriced};
 use crate::refusal::Refusal;
+use crate::refusal::is_refusal;
 use crate::refusal::refusal_in;
 use adder::price::Pricing;
 use curve_set::answer::Answer;
@@ -44,7 +45,7 @@ pub extern "C" fn ordc_price(curves: &[i64; 50], text: &[u8], answer: &mut [i64;
     let pricing = price(curves_of(*curves), text);
     let ended = pricing_answer(pricing);
     let found = refusal_in(ended);
-    if found.number != 0 {
+    if is_refusal(found) {
         return found;
     }
     *answer = pricing_values(pricing);

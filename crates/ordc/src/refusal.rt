@@ -1,5 +1,7 @@
 // How every function of the library answers.
 ghost use mathlib.Core.Path.{_≡_};
+ghost use mathlib.Core.Bool.{not};
+ghost use lib.Dec.{eqb};
 ghost use Rattle.ordc.specs.Refusal.{refusalIn};
 use curve_set::answer::Answer;
 
@@ -22,4 +24,11 @@ pub(crate) fn refusal_in(answer: Answer) -> Refusal
             Refusal { number, line }
         }
     }
+}
+
+// Whether anything was refused, so that what is lent stays as it was.
+pub(crate) fn is_refusal(found: Refusal) -> bool
+    ensures { λ r. ⌜ r ≡ not (eqb (found .number) 0) ⌝ }
+{
+    found.number != 0
 }

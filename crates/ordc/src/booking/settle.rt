@@ -3,6 +3,7 @@ ghost use mathlib.Core.Path.{_≡_};
 ghost use Rattle.ordc.specs.Record.{recordOf, RecordSettled};
 use crate::booking::record_of;
 use crate::refusal::Refusal;
+use crate::refusal::is_refusal;
 use crate::refusal::refusal_in;
 use curve_values::values_of;
 use record::settle::settle;
@@ -20,7 +21,7 @@ pub extern "C" fn ordc_settle(
     let settled = settle(record_of(history), voll, floor);
     let answer = settled.answer;
     let found = refusal_in(answer);
-    if found.number != 0 {
+    if is_refusal(found) {
         return found;
     }
     let set = settled.set;

@@ -2,6 +2,7 @@
 ghost use mathlib.Core.Path.{_≡_};
 ghost use Rattle.ordc.specs.CurveText.{writingAnswer, writtenLength, CurvesWritten};
 use crate::refusal::Refusal;
+use crate::refusal::is_refusal;
 use crate::refusal::refusal_in;
 use curve::WrittenCurves;
 use curve::write_curves;
@@ -41,7 +42,7 @@ pub extern "C" fn ordc_write_curves(
     let ended = write_curves(curves_of(*curves), buffer);
     let answer = writing_answer(ended);
     let found = refusal_in(answer);
-    if found.number != 0 {
+    if is_refusal(found) {
         return found;
     }
     *written = written_length(ended);

@@ -2,7 +2,7 @@
 use Prim.Native.Nat.{ℕ}
 use mathlib.Core.List.{List}
 use mathlib.Core.Path.{_≡_, ap, sym, _∙_}
-use borrow.Author.Tests.{eq-eqb}
+use lib.Dec.{eqb}
 use denote.Ref.{now}
 use Rattle.record.specs.Record.{allPossible}
 use Rattle.history.specs.Booking.{booked}
@@ -11,7 +11,7 @@ use Rattle.history.specs.declared.Booking.{Booking}
 use Rattle.ordc.specs.Refusal.{refusalIn}
 use Rattle.ordc.specs.Record.{recordOf, recordValues}
 use Rattle.ordc.specs.declared.refusal.Refusal.{Refusal}
-use Rattle.ordc.proofs.Answered.{lent-laid, lent-left}
+use Rattle.ordc.proofs.Answered.{accepted, lent-laid, lent-left}
 use Rattle.ordc.proofs.Groups.{accepted-possible}
 use Rattle.ordc.proofs.booking.ordc_book.Statement.{statement}
 use Rattle.ordc.proofs.booking.ordc_book.Tie as tie
@@ -24,6 +24,9 @@ book-requires c κs = tt
 
 refusal-in-requires : tie.Need-refusal-in-requires
 refusal-in-requires c κs = tt
+
+is-refusal-requires : tie.Need-is-refusal-requires
+is-refusal-requires c κs = tt
 
 abbrev text-of : tie.After-book → List ℕ
 text-of c = now (c .before .before .before .before .args .text)
@@ -38,19 +41,19 @@ found : (c : tie.After-refusal-in) → c .refusal-in .result ≡ refusalIn (book
 found c = c .refusal-in .ensures ∙ ap (λ (b : Booking). refusalIn (b .answer)) (booking (c .before))
 
 returns : tie.Need-returns
-returns c = lent-left (found (c .before .before)) (c .if1 .taken)
+returns c = lent-left (found (c .before .before)) (c .before .is-refusal .ensures) (c .if1 .taken)
 
 record-values-requires : tie.Need-record-values-requires
 record-values-requires c κs =
     let called = c .before .before .before in
     let booked-on = called .before in
-    let zero = sym (ap (λ (r : Refusal). r .number) (found called)) ∙ c .before .if1 .left in
-    rw (booking booked-on) (accepted-possible (history-of booked-on) (text-of booked-on) (eq-eqb _ 0 zero))
+    let zero = accepted (eqb (called .refusal-in .result .number) 0) (c .before .before .is-refusal .result) (c .before .before .is-refusal .ensures) (c .before .if1 .left) in
+    rw (booking booked-on) (accepted-possible (history-of booked-on) (text-of booked-on) (sym (ap (λ (r : Refusal). eqb (r .number) 0) (found called)) ∙ zero))
 
 returns-2 : tie.Need-returns-2
 returns-2 c =
     let called = c .before .before .before .before in
-    lent-laid (found called) (c .before .before .if1 .left) (c .record-values .ensures ∙ ap (λ (b : Booking). recordValues (b .history)) (booking (called .before)))
+    lent-laid (found called) (c .before .before .before .is-refusal .ensures) (c .before .before .if1 .left) (c .record-values .ensures ∙ ap (λ (b : Booking). recordValues (b .history)) (booking (called .before)))
 
 pub ordc-book-spec : {M : Type 1} → statement M
 ordc-book-spec =
@@ -58,7 +61,7 @@ ordc-book-spec =
     (tie.spec
     record-of-requires
     book-requires
-    refusal-in-requires
+    refusal-in-requires is-refusal-requires
     returns
     record-values-requires
     returns-2)

@@ -15,6 +15,9 @@ read-curves-requires c κs = tt
 refusal-in-requires : tie.Need-refusal-in-requires
 refusal-in-requires c κs = tt
 
+is-refusal-requires : tie.Need-is-refusal-requires
+is-refusal-requires c κs = tt
+
 abbrev given : tie.After-read-curves → Curves
 given c = readCurves (now (c .before .before .args .text))
 
@@ -22,7 +25,7 @@ found : (c : tie.After-refusal-in) → c .refusal-in .result ≡ refusalIn (give
 found c = c .refusal-in .ensures ∙ ap (λ (curves : Curves). refusalIn (curves .answer)) (c .before .read-curves .ensures)
 
 returns : tie.Need-returns
-returns c = lent-left (found (c .before .before)) (c .if1 .taken)
+returns c = lent-left (found (c .before .before)) (c .before .is-refusal .ensures) (c .if1 .taken)
 
 values-of-requires : tie.Need-values-of-requires
 values-of-requires c κs = tt
@@ -30,8 +33,8 @@ values-of-requires c κs = tt
 returns-2 : tie.Need-returns-2
 returns-2 c =
     let called = c .before .before .before .before in
-    lent-laid (found called) (c .before .before .if1 .left)
+    lent-laid (found called) (c .before .before .before .is-refusal .ensures) (c .before .before .if1 .left)
     (c .values-of .ensures ∙ ap (λ (curves : Curves). curveValues (curves .set)) (called .before .read-curves .ensures))
 
 pub ordc-read-curves-spec : {M : Type 1} → statement M
-ordc-read-curves-spec = tie.close (tie.spec read-curves-requires refusal-in-requires returns values-of-requires returns-2)
+ordc-read-curves-spec = tie.close (tie.spec read-curves-requires refusal-in-requires is-refusal-requires returns values-of-requires returns-2)

@@ -26,6 +26,9 @@ pricing-answer-requires c κs = tt
 refusal-in-requires : tie.Need-refusal-in-requires
 refusal-in-requires c κs = tt
 
+is-refusal-requires : tie.Need-is-refusal-requires
+is-refusal-requires c κs = tt
+
 abbrev set : tie.After-price → CurveSet
 set c = curvesOf (now (c .before .before .before .before .args .curves))
 
@@ -39,7 +42,7 @@ found : (c : tie.After-refusal-in) → let p = c .before .before in c .refusal-i
 found c = c .refusal-in .ensures ∙ ap refusalIn (c .before .pricing-answer .ensures ∙ ap pricingAnswer (pricing (c .before .before)))
 
 returns : tie.Need-returns
-returns c = lent-left (found (c .before .before)) (c .if1 .taken)
+returns c = lent-left (found (c .before .before)) (c .before .is-refusal .ensures) (c .if1 .taken)
 
 pricing-values-requires : tie.Need-pricing-values-requires
 pricing-values-requires c κs =
@@ -49,7 +52,7 @@ pricing-values-requires c κs =
 returns-2 : tie.Need-returns-2
 returns-2 c =
     let called = c .before .before .before in
-    lent-laid (found called) (c .before .if1 .left) (c .pricing-values .ensures ∙ ap pricingValues (pricing (called .before .before)))
+    lent-laid (found called) (c .before .before .is-refusal .ensures) (c .before .if1 .left) (c .pricing-values .ensures ∙ ap pricingValues (pricing (called .before .before)))
 
 pub ordc-price-spec : {M : Type 1} → statement M
 ordc-price-spec =
@@ -58,7 +61,7 @@ ordc-price-spec =
     curves-of-requires
     price-requires
     pricing-answer-requires
-    refusal-in-requires
+    refusal-in-requires is-refusal-requires
     returns
     pricing-values-requires
     returns-2)

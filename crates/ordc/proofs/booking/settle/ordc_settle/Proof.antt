@@ -20,6 +20,9 @@ settle-requires c κs = tt
 refusal-in-requires : tie.Need-refusal-in-requires
 refusal-in-requires c κs = tt
 
+is-refusal-requires : tie.Need-is-refusal-requires
+is-refusal-requires c κs = tt
+
 abbrev given : tie.After-settle → Curves
 given c = let s = c .before .before in settled (recordOf (now (s .args .history))) (s .args .voll) (s .args .floor)
 
@@ -32,7 +35,7 @@ found : (c : tie.After-refusal-in) → c .refusal-in .result ≡ refusalIn (give
 found c = c .refusal-in .ensures ∙ ap (λ (curves : Curves). refusalIn (curves .answer)) (settling (c .before))
 
 returns : tie.Need-returns
-returns c = lent-left (found (c .before .before)) (c .if1 .taken)
+returns c = lent-left (found (c .before .before)) (c .before .is-refusal .ensures) (c .if1 .taken)
 
 values-of-requires : tie.Need-values-of-requires
 values-of-requires c κs = tt
@@ -40,7 +43,7 @@ values-of-requires c κs = tt
 returns-2 : tie.Need-returns-2
 returns-2 c =
     let called = c .before .before .before .before in
-    lent-laid (found called) (c .before .before .if1 .left) (c .values-of .ensures ∙ ap (λ (curves : Curves). curveValues (curves .set)) (settling (called .before)))
+    lent-laid (found called) (c .before .before .before .is-refusal .ensures) (c .before .before .if1 .left) (c .values-of .ensures ∙ ap (λ (curves : Curves). curveValues (curves .set)) (settling (called .before)))
 
 pub ordc-settle-spec : {M : Type 1} → statement M
-ordc-settle-spec = tie.close (tie.spec record-of-requires settle-requires refusal-in-requires returns values-of-requires returns-2)
+ordc-settle-spec = tie.close (tie.spec record-of-requires settle-requires refusal-in-requires is-refusal-requires returns values-of-requires returns-2)

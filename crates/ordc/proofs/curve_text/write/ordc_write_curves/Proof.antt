@@ -25,6 +25,9 @@ writing-answer-requires c κs = tt
 refusal-in-requires : tie.Need-refusal-in-requires
 refusal-in-requires c κs = tt
 
+is-refusal-requires : tie.Need-is-refusal-requires
+is-refusal-requires c κs = tt
+
 abbrev start : tie.After-write-curves → tie.Start
 start c = c .before .before .before .before .before
 
@@ -45,7 +48,7 @@ same-length c = search needs
 returns : tie.Need-returns
 returns c =
     let called = c .before .before in
-    record { count = lent-left (found called) (c .if1 .taken); bytes = written (called .before .before .before .before) .bytes }
+    record { count = lent-left (found called) (c .before .is-refusal .ensures) (c .if1 .taken); bytes = written (called .before .before .before .before) .bytes }
 
 written-length-requires : tie.Need-written-length-requires
 written-length-requires c κs = tt
@@ -57,7 +60,7 @@ returns-2 : tie.Need-returns-2
 returns-2 c =
     let called = c .before .before .before in
     let w = written (called .before .before .before .before) in
-    record { count = lent-laid (found called) (c .before .if1 .left) (c .written-length .ensures ∙ ap writtenLength (w .ends)); bytes = w .bytes }
+    record { count = lent-laid (found called) (c .before .before .is-refusal .ensures) (c .before .if1 .left) (c .written-length .ensures ∙ ap writtenLength (w .ends)); bytes = w .bytes }
 
 pub ordc-write-curves-spec : {M : Type 1} → statement M
 ordc-write-curves-spec =
@@ -66,7 +69,7 @@ ordc-write-curves-spec =
     curves-of-requires
     write-curves-requires
     writing-answer-requires
-    refusal-in-requires
+    refusal-in-requires is-refusal-requires
     same-length
     returns
     written-length-requires
