@@ -1,19 +1,18 @@
 -- Each case of the answer computes.
-use borrow.Author.Needs.{needs}
 use Rattle.line.proofs.end_fault.Statement.{statement}
 use Rattle.line.proofs.end_fault.Tie as tie
 
 enum-known-end : tie.Need-enum-known-end
-enum-known-end c = search needs
+enum-known-end c = c .match .keys1
 
 enum-told : tie.Need-enum-told
-enum-told c = search needs
+enum-told c = c .match .keys2
 
 returns : tie.Need-returns
-returns c = search needs
+returns c = rw (c .before .end .given .1)
 
 returns-2 : tie.Need-returns-2
-returns-2 c = cc
+returns-2 c = rw (c .enum-told .given .1)
 
 pub end-fault-spec : {M : Type 1} → statement M
 end-fault-spec = tie.close (tie.spec enum-known-end enum-told returns returns-2)

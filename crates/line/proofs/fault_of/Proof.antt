@@ -1,19 +1,18 @@
 -- Each case of the line computes.
-use borrow.Author.Needs.{needs}
 use Rattle.line.proofs.fault_of.Statement.{statement}
 use Rattle.line.proofs.fault_of.Tie as tie
 
 enum-known-line : tie.Need-enum-known-line
-enum-known-line c = search needs
+enum-known-line c = c .match .keys1
 
 enum-known-line-2 : tie.Need-enum-known-line-2
-enum-known-line-2 c = search needs
+enum-known-line-2 c = c .match .keys2
 
 returns : tie.Need-returns
-returns c = search needs
+returns c = rw (c .before .line .given .1)
 
 returns-2 : tie.Need-returns-2
-returns-2 c = cc
+returns-2 c = rw (c .before .line2 .given .1)
 
 pub fault-of-spec : {M : Type 1} → statement M
 fault-of-spec = tie.close (tie.spec enum-known-line enum-known-line-2 returns returns-2)
