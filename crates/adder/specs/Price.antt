@@ -1,8 +1,7 @@
 -- Document 01, "The two prices".
 use Prim.Native.Nat.{ℕ, _+_, _*_, _/_}
-use mathlib.Core.Bool.{Bool, true, false}
 use lib.Dec.{eqb}
-use lib.IntN.{ℤ, pos, natAbs, _-ℤ_}
+use lib.IntN.{pos, natAbs, _-ℤ_}
 use lib.ListN.{getD}
 use Rattle.integer.specs.Order.{maxℤ}
 use Rattle.text.specs.Choice.{pick}

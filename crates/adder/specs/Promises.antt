@@ -1,8 +1,7 @@
 -- The one argument on prices, over sums and header numbers: neither price rises when a sum is not lower, PRC is not lower, `short` is not higher, and the mean is
 -- not higher. Off-line ≤ on-line ≤ max(0, VOLL - lambda).
-use Prim.Native.Nat.{ℕ, _≤_}
+use Prim.Native.Nat.{_≤_}
 use mathlib.Core.Path.{_≡_}
-use mathlib.Core.Bool.{true}
 use lib.IntN.{ℤ, pos}
 use lib.Signed.{_≤ℤ_}
 use Rattle.curve_set.specs.declared.CurveSet.{CurveSet}

@@ -1,5 +1,4 @@
 -- Document 01, "Snapshot to reserves": the load cap, the factor, RS and RSNS.
-use Prim.Native.Nat.{ℕ}
 use lib.IntN.{ℤ, pos, _+ℤ_, _-ℤ_, _*ℤ_}
 use lib.Signed.{leZ}
 use Rattle.integer.specs.Floor.{floorDiv}

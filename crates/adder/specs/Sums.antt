@@ -1,12 +1,8 @@
 -- Document 01, "Snapshot to reserves": the ranges of the header's numbers and of the sums.
-use Prim.Native.Nat.{ℕ, zero, suc, _*_}
-use mathlib.Core.Bool.{Bool, true, false, _&&_}
-use mathlib.Core.List.{List, [], _∷_}
+use Prim.Native.Nat.{ℕ, _*_}
+use mathlib.Core.Bool.{Bool, _&&_}
 use lib.IntN.{ℤ, pos, negℤ, _+ℤ_}
 use Rattle.text.specs.Choice.{pick}
-use Rattle.text.specs.Bytes.{bytes}
-use Rattle.line.specs.Field.{Field}
-use Rattle.number.specs.Field.{numberField}
 use Rattle.curve_set.specs.Curves.{within}
 use Rattle.adder.specs.declared.sums.Sums.{Sums}
 use Rattle.adder.specs.declared.sums.Header.{Header}
@@ -36,18 +32,6 @@ sumsPossible s =
     && within (pos 0) (pos (4096 * 2000000)) (s .responsive))))
 
 -- ---- the header
-
-unfoldable pub headerFields : List (Field ℤ)
-headerFields =
-    numberField (bytes "month=") (pos 1) (pos 12)
-    ∷ numberField (bytes "hour=") (pos 0) (pos 23)
-    ∷ numberField (bytes "lambda=") (negℤ (pos 2000000)) (pos 2000000)
-    ∷ numberField (bytes "factor=") (pos 0) (pos 10000)
-    ∷ numberField (bytes "prc=") (pos 0) (pos 200000000)
-    ∷ numberField (bytes "eea1=") (pos 0) (pos 200000000)
-    ∷ numberField (bytes "short=") (pos 0) (pos 200000000)
-    ∷ numberField (bytes "count=") (pos 0) (pos 4096)
-    ∷ []
 
 -- the first header value out of its range, by its line; 0 where there is none
 unfoldable pub headerFault : Header → ℕ

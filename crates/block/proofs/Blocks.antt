@@ -8,15 +8,16 @@ use mathlib.Core.Path.{_≡_, refl, ap, _∙_}
 use lib.IntN.{ℤ}
 use lib.ListN.{length, take, drop, getD, set, drop-of-length-le, length-append, length-set}
 use lib.Seq.{take-nil, drop-cons, set-at}
-use Rattle.text.specs.Piece.{pieceLength}
+use Rattle.piece.specs.Piece.{pieceLength}
 use Rattle.line.specs.Field.{Field, fieldAt}
-use Rattle.number.specs.Field.{numberField, numberAnswer, numberFault}
+use Rattle.number.specs.Field.{numberField, numberAnswer}
 use Rattle.block.specs.Block.{Reading, andThen, readFields, numberFields, keysOf, placedFields, BlockRead}
 use Rattle.text.specs.declared.refusal.Fault.{Fault}
-use Rattle.number.specs.declared.NumberLine.{NumberLine}
-use Rattle.number.specs.declared.NumberLine.the-variants as number-line
-use Rattle.block.specs.declared.Block.the-variants as block
-use Rattle.text.proofs.Pieces.{piece-none, piece-next, piece-fits}
+use Rattle.answers.specs.declared.NumberLine.{NumberLine}
+use Rattle.answers.specs.declared.NumberLine.the-variants as number-line
+use Rattle.answers.specs.declared.Block.the-variants as block
+use Rattle.piece.proofs.Pieces.{piece-none, piece-next, piece-fits}
+use Rattle.answers.specs.Answers.{numberFault}
 
 -- the lines of a schema from a key on, i lines standing before
 abbrev pub fieldsFrom : List ℕ → List ℤ → List ℤ → ℕ → ℕ → List (Field ℤ)

@@ -8,22 +8,23 @@ use mathlib.Core.Path.{_≡_, refl, sym, ap, _∙_}
 use lib.Dec.{leb}
 use lib.IntN.{ℤ, pos, natAbs}
 use lib.Signed.{leZ, _≤ℤ_}
-use lib.ListN.{length, getD, drop-of-length-le, List·getD-eq-default}
+use lib.ListN.{length, drop-of-length-le, List·getD-eq-default}
 use borrow.Author.Tests.{leb-true, leb-false}
 use Rattle.integer.proofs.Difference.{view, toℕ}
 use Rattle.integer.proofs.Order.{leZ-true}
 use Rattle.text.specs.Choice.{pick}
-use Rattle.line.specs.Line.{lineAt, part}
+use Rattle.line.specs.Line.{lineAt}
+use Rattle.piece.specs.Piece.{part}
 use Rattle.text.proofs.Choices.{and-left, and-right}
 use Rattle.number.specs.Number.{numberOf, ranged}
 use Rattle.line.specs.Field.{Judged, good, bad, Field, Answer, got, refused, judged, valueIn, fieldAt}
 use Rattle.number.specs.Field.{judgedNumber, numberField}
 use Rattle.block.specs.Block.{Reading, andThen, readFields, numberFields, value, placedFields, laidOver, BlockRead}
-use Rattle.line.specs.declared.Line.{Line}
-use Rattle.line.specs.declared.Line.the-variants as line
+use Rattle.answers.specs.declared.Line.{Line}
+use Rattle.answers.specs.declared.Line.the-variants as line
 use Rattle.number.specs.declared.Number.the-variants as number
-use Rattle.block.specs.declared.Block.{Block}
-use Rattle.block.specs.declared.Block.the-variants as block
+use Rattle.answers.specs.declared.Block.{Block}
+use Rattle.answers.specs.declared.Block.the-variants as block
 
 -- a schema before another one: the other is read where the first ended
 abbrev pub readingThen : {A : Type 0} → Reading A → (ℕ → Reading A) → Reading A

@@ -5,20 +5,22 @@ use native.Mathlib.Nat.{add-assoc}
 use native.Mathlib.Omega.{arith}
 use mathlib.Core.Bool.{Bool, true, false}
 use mathlib.Core.List.{List, [], _∷_}
-use mathlib.Core.Path.{_≡_, refl, sym}
+use mathlib.Core.Path.{_≡_, refl}
 use lib.Dec.{eqb, ltb}
 use lib.ListN.{length, take, drop, length-drop}
 use lib.Seq.{drop-drop}
 use borrow.Author.Tests.{ltb-true}
 use Rattle.text.specs.Choice.{pick}
-use Rattle.line.specs.Line.{lineLength, begins, part, fault, lineIn, lineAt, faultOf}
+use Rattle.line.specs.Line.{lineLength, begins, lineIn, lineAt}
+use Rattle.piece.specs.Piece.{part}
 use Rattle.line.specs.Field.{Judged, good, bad, Field, Answer, got, refused, judged, valueIn, fieldAt}
-use Rattle.block.specs.Block.{Reading, andThen, readFields, blockFault}
+use Rattle.block.specs.Block.{Reading, andThen, readFields}
 use Rattle.text.specs.declared.refusal.Fault.{Fault}
-use Rattle.line.specs.declared.Line.{Line}
-use Rattle.line.specs.declared.Line.the-variants as line
-use Rattle.block.specs.declared.Block.{Block}
-use Rattle.block.specs.declared.Block.the-variants as block
+use Rattle.answers.specs.Answers.{fault, lineFault, blockFault}
+use Rattle.answers.specs.declared.Line.{Line}
+use Rattle.answers.specs.declared.Line.the-variants as line
+use Rattle.answers.specs.declared.Block.{Block}
+use Rattle.answers.specs.declared.Block.the-variants as block
 
 -- ---- positions moved
 
@@ -91,7 +93,7 @@ answerPosition (got value next) = next
 answerPosition (refused found) = found .at
 
 module _ (text : List ℕ) where
-  line-within : (key : List ℕ) (at : ℕ) → at ≤ length text → faultOf (lineAt key text at) .at ≤ length text
+  line-within : (key : List ℕ) (at : ℕ) → at ≤ length text → lineFault (lineAt key text at) .at ≤ length text
   unfolding lineIn
   line-within key at h =
       go
@@ -102,7 +104,7 @@ module _ (text : List ℕ) where
     where
       go :
           (ended : Bool) → ltb (lineLength (drop at text)) (length (drop at text)) ≡ ended → (begun empty : Bool) →
-          faultOf
+          lineFault
           (pick ended
           (pick begun
           (pick empty
@@ -123,7 +125,7 @@ module _ (text : List ℕ) where
       judged-within next (good value) n = n
       judged-within next (bad number) n = h
 
-      go : (found : Line) → faultOf found .at ≤ length text → answerPosition (valueIn field text at found) ≤ length text
+      go : (found : Line) → lineFault found .at ≤ length text → answerPosition (valueIn field text at found) ≤ length text
       go (line.Value start end next) n = judged-within next (field .read (part text start end)) n
       go (line.Refused found) n = n
 

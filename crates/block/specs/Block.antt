@@ -4,13 +4,11 @@ use mathlib.Core.Path.{_≡_}
 use mathlib.Core.List.{List, [], _∷_, _++_}
 use lib.IntN.{ℤ, pos}
 use lib.ListN.{length, getD, take, drop}
-use Rattle.text.specs.Piece.{piecesOf}
-use Rattle.line.specs.Line.{fault}
-use Rattle.text.specs.declared.refusal.Fault.{Fault}
+use Rattle.piece.specs.Piece.{piecesOf}
 use Rattle.line.specs.Field.{Field, Answer, got, refused, fieldAt}
 use Rattle.number.specs.Field.{numberField}
-use Rattle.block.specs.declared.Block.{Block}
-use Rattle.block.specs.declared.Block.the-variants as block
+use Rattle.answers.specs.declared.Block.{Block}
+use Rattle.answers.specs.declared.Block.the-variants as block
 
 -- the values read, and how reading ended: after the last line, or at the first refused one
 pub record Reading (A : Type 0) : Type 0 where
@@ -57,11 +55,6 @@ numberFields (key ∷ keys) (low ∷ lows) (high ∷ highs) = numberField key lo
 -- new values in place of the first ones
 abbrev pub laidOver : {A : Type 0} → List A → List A → List A
 laidOver values places = values ++ drop (length values) places
-
--- the fault of a refused block; 0 stands for no refusal
-abbrev pub blockFault : Block → Fault
-blockFault (block.Read next) = fault 0 next
-blockFault (block.Refused found) = found
 
 -- the schema that is read into some places: no more lines than places
 abbrev pub placedFields : List ℕ → List ℤ → List ℤ → List ℤ → List (Field ℤ)

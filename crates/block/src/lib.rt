@@ -1,17 +1,10 @@
 // A block of lines by a schema of numbers: the keys, each ended by `=`, as one byte string, and the least and the greatest number of each.
-ghost use mathlib.Core.Path.{_≡_};
-ghost use Rattle.block.specs.Block.{BlockRead, blockFault};
-use number::NumberLine;
+ghost use Rattle.block.specs.Block.{BlockRead};
+use answers::Block;
+use answers::NumberLine;
+use answers::number_fault;
 use number::number_at;
-use number::number_fault;
-use text::piece::piece_end;
-use text::refusal::Fault;
-
-// How reading a block ended: every line was read and the next one starts at next, or a line was refused.
-pub enum Block {
-    Read { next: usize },
-    Refused(Fault),
-}
+use piece::piece_end;
 
 // The lines that are due at a position, each a number under its key within its bounds, into the first places of `out`: as many lines as there are keys,
 // bounds and places.
@@ -49,17 +42,4 @@ pub fn read_block(
         i += 1;
     }
     Block::Read { next }
-}
-
-// The fault of a refused block.
-pub fn block_fault(block: Block) -> Fault
-    ensures { λ r. ⌜ r ≡ blockFault block ⌝ }
-{
-    match block {
-        Block::Refused(fault) => fault,
-        Block::Read { next } => Fault {
-            number: 0,
-            at: next,
-        },
-    }
 }

@@ -16,14 +16,14 @@ use Rattle.integer.proofs.Bounds.{abs-bound}
 use Rattle.text.specs.Choice.{pick}
 use Rattle.text.specs.Bytes.{bytes}
 use Rattle.line.specs.Line.{lineLength}
-use Rattle.line.specs.declared.End.the-variants as end
+use Rattle.answers.specs.declared.End.the-variants as end
 use Rattle.text.proofs.Choices.{and-left, and-right}
 use Rattle.number.specs.Number.{digitsOf, writtenNumber}
 use Rattle.number.specs.Field.{numberField}
 use Rattle.block.specs.Block.{readFields, writeFields, repeated}
 use Rattle.writer.specs.Promises.{AllSound, none-sound, one-sound, AllFitting, none-fitting, one-fitting, Fitting}
-use Rattle.block.specs.declared.Block.{Block}
-use Rattle.block.specs.declared.Block.the-variants as block
+use Rattle.answers.specs.declared.Block.{Block}
+use Rattle.answers.specs.declared.Block.the-variants as block
 use Rattle.writer.proofs.RoundTrip.{written-is-read-back, read-is-written-back}
 use Rattle.writer.proofs.Values.{numbers-are-sound, numbers-in-range-fit}
 use Rattle.writer.proofs.WrittenDigits.{count-one, count-more}

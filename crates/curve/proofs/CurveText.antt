@@ -11,18 +11,18 @@ use lib.Seq.{take-all}
 use borrow.Author.Tests.{le-ltb}
 use Rattle.text.specs.Choice.{pick}
 use Rattle.text.specs.Bytes.{bytes}
-use Rattle.text.specs.Piece.{piecesFrom}
+use Rattle.piece.specs.Piece.{piecesFrom}
 use Rattle.text.specs.Refusal.{refusalOf}
-use Rattle.line.specs.Line.{endAt, endFault}
+use Rattle.answers.specs.Answers.{endAt, endFault, blockFault}
 use Rattle.text.specs.declared.refusal.Fault.{Fault}
 use Rattle.text.specs.declared.refusal.Refusal.{Refusal}
-use Rattle.line.specs.declared.End.{End}
-use Rattle.line.specs.declared.End.the-variants as end
+use Rattle.answers.specs.declared.End.{End}
+use Rattle.answers.specs.declared.End.the-variants as end
 use Rattle.text.proofs.Choices.{chosen, passed-over}
 use Rattle.line.specs.Field.{Field, Answer, got, refused, fieldAt}
-use Rattle.block.specs.Block.{andThen, readFields, writeFields, repeated, numberFields, keysOf, laidOver, placedFields, blockFault, BlockRead}
-use Rattle.block.specs.declared.Block.{Block}
-use Rattle.block.specs.declared.Block.the-variants as block
+use Rattle.block.specs.Block.{andThen, readFields, writeFields, repeated, numberFields, keysOf, laidOver, placedFields, BlockRead}
+use Rattle.answers.specs.declared.Block.{Block}
+use Rattle.answers.specs.declared.Block.the-variants as block
 use Rattle.writer.specs.Write.{writtenNumbers, laidAt, TextWritten, BlockWritten}
 use Rattle.writer.specs.declared.Written.{Written}
 use Rattle.writer.specs.declared.Written.the-variants as written

@@ -1,4 +1,3 @@
 -- Laws that crates above cite; the proofs of the named statements of specs/Promises.antt.
-pub mod KnownValues
 pub mod CurveText
 pub mod CurveRoundTrip

@@ -1,7 +1,7 @@
 -- Document 01, "History to curves": the text of a curve set.
 use Prim.Native.Nat.{ℕ}
 use mathlib.Core.Path.{_≡_}
-use mathlib.Core.Bool.{Bool, _&&_}
+use mathlib.Core.Bool.{_&&_}
 use mathlib.Core.List.{List, [], _∷_}
 use lib.Dec.{leb, ltb}
 use lib.IntN.{ℤ, pos, negℤ}
@@ -9,15 +9,15 @@ use lib.ListN.{length}
 use Rattle.text.specs.Choice.{pick}
 use Rattle.text.specs.Bytes.{bytes}
 use Rattle.text.specs.Refusal.{refusalOf}
-use Rattle.line.specs.Line.{endAt}
+use Rattle.answers.specs.Answers.{endAt}
 use Rattle.line.specs.Field.{Field}
 use Rattle.number.specs.Field.{numberField}
 use Rattle.block.specs.Block.{readFields, writeFields, repeated}
 use Rattle.writer.specs.Write.{laidAt}
-use Rattle.line.specs.declared.End.{End}
-use Rattle.line.specs.declared.End.the-variants as end
-use Rattle.block.specs.declared.Block.{Block}
-use Rattle.block.specs.declared.Block.the-variants as block
+use Rattle.answers.specs.declared.End.{End}
+use Rattle.answers.specs.declared.End.the-variants as end
+use Rattle.answers.specs.declared.Block.{Block}
+use Rattle.answers.specs.declared.Block.the-variants as block
 use Rattle.curve_set.specs.Answer.{refusal}
 use Rattle.curve_set.specs.Curves.{curvesInRange, refusedCurves}
 use Rattle.curve_set.specs.declared.answer.Answer.the-variants as answer

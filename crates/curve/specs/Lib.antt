@@ -1,4 +1,3 @@
--- Document 01, "History to curves": the text of a curve set, its promises, and known values.
+-- Document 01, "History to curves": the text of a curve set and its promises.
 pub mod CurveText
 pub mod Promises
-pub mod Known

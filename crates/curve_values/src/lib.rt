@@ -4,6 +4,11 @@ ghost use Rattle.curve_values.specs.CurveValues.{curveValues, curvesOf};
 use curve_set::CurveSet;
 use curve_set::Pair;
 
+// Where the first mean and the first spread stand.
+const MEANS: usize = 2;
+
+const SPREADS: usize = 3;
+
 // The values of a curve set in the order of its lines.
 pub fn values_of(curves: CurveSet) -> [i64; 50]
     ensures { λ r. ⌜ r ≡ curveValues curves ⌝ }
@@ -18,8 +23,8 @@ pub fn values_of(curves: CurveSet) -> [i64; 50]
         let pair = curves.pairs[i];
         let mean = pair.mean;
         let spread = pair.spread;
-        values[2 + 2 * i] = mean;
-        values[3 + 2 * i] = spread;
+        values[MEANS + 2 * i] = mean;
+        values[SPREADS + 2 * i] = spread;
         i += 1;
     }
     values
@@ -32,8 +37,8 @@ pub fn curves_of(values: [i64; 50]) -> CurveSet
     let mut pairs = [Pair { mean: 0, spread: 0 }; 24];
     let mut i: usize = 0;
     while i < 24 {
-        let mean = values[2 + 2 * i];
-        let spread = values[3 + 2 * i];
+        let mean = values[MEANS + 2 * i];
+        let spread = values[SPREADS + 2 * i];
         pairs[i] = Pair { mean, spread };
         i += 1;
     }

@@ -1,7 +1,7 @@
 // The program `curves`: history hours on standard input to the curve text on standard output.
 use libc::STDIN_FILENO;
 use libc::STDOUT_FILENO;
-use line::part;
+use piece::part;
 use stream::Stream;
 
 // No input has more reads than this, so that the program ends.

@@ -14,28 +14,30 @@ use Rattle.integer.proofs.Difference.{view, toℕ}
 use Rattle.integer.proofs.Order.{leZ-true}
 use Rattle.text.specs.Choice.{pick}
 use Rattle.text.specs.Bytes.{bytes}
-use Rattle.line.specs.Line.{lineAt, part, endAt}
+use Rattle.line.specs.Line.{lineAt}
+use Rattle.piece.specs.Piece.{part}
 use Rattle.number.specs.Number.{numberOf, ranged}
 use Rattle.line.specs.Field.{Field, Judged, good, bad, got, refused as fault, Answer as FieldAnswer, judged, valueIn, fieldAt}
 use Rattle.number.specs.Field.{judgedNumber, numberField}
 use Rattle.block.specs.Block.{Reading, andThen, readFields}
 use Rattle.text.specs.declared.refusal.Refusal.{Refusal}
-use Rattle.line.specs.declared.Line.{Line}
-use Rattle.line.specs.declared.Line.the-variants as line
-use Rattle.line.specs.declared.End.{End}
-use Rattle.line.specs.declared.End.the-variants as end
+use Rattle.answers.specs.Answers.{endAt}
+use Rattle.answers.specs.declared.Line.{Line}
+use Rattle.answers.specs.declared.Line.the-variants as line
+use Rattle.answers.specs.declared.End.{End}
+use Rattle.answers.specs.declared.End.the-variants as end
 use Rattle.number.specs.declared.Number.the-variants as number
-use Rattle.block.specs.declared.Block.{Block}
-use Rattle.block.specs.declared.Block.the-variants as block
+use Rattle.answers.specs.declared.Block.{Block}
+use Rattle.answers.specs.declared.Block.the-variants as block
 use Rattle.curve_set.specs.declared.answer.Answer.the-variants as answer
 use Rattle.hour.specs.declared.read.ReadHour.the-variants as read-hour
 use Rattle.record.specs.declared.Record.{Record}
 use Rattle.season.specs.Season.{seasonOf, blockOf, groupOf}
 use Rattle.block.specs.Block.{repeated}
 use Rattle.hour.specs.Hour.{Hour, Run, HourAnswer, read, refused, hourFields, runFields, hourOf, runsOf, afterRuns, afterRunBlock, afterHourBlock, hourIn, hourGroup, errorAnswer}
-use Rattle.record.specs.Record.{allPossible}
+use Rattle.settling.specs.Possible.{allPossible}
 use Rattle.history.specs.Booking.{bookError, bookHour, booked}
-use Rattle.record.proofs.Possible.{and-split}
+use Rattle.settling.proofs.PossibleGroups.{and-split}
 
 -- ---- booking by cases
 

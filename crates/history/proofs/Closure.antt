@@ -13,17 +13,18 @@ use lib.Signed.{_≤ℤ_}
 use Rattle.integer.proofs.Difference.{view, toℕ}
 use Rattle.integer.proofs.Order.{sum-nonneg, square-nonneg}
 use Rattle.integer.proofs.Bounds.{abs-add, abs-mul}
-use Rattle.integer.proofs.Quadratic.{quadratic-add}
+use Rattle.quadratic.proofs.Quadratic.{quadratic-add}
 use Rattle.text.specs.Choice.{pick}
 use Rattle.curve_set.specs.declared.answer.Answer.the-variants as answer
 use Rattle.record.specs.declared.Group.{Group}
 use Rattle.record.specs.declared.Record.{Record}
 use Rattle.history.specs.declared.Booking.{Booking}
 use Rattle.hour.specs.Hour.{HourAnswer, read, refused, hourIn, hourGroup, errorOf}
-use Rattle.record.specs.Record.{fresh, groupAt, withGroup, squaresAround, possible, allPossible}
+use Rattle.record.specs.Record.{fresh, groupAt, withGroup}
+use Rattle.settling.specs.Possible.{squaresAround, possible, allPossible}
 use Rattle.history.specs.Booking.{withError, kept, bookError, bookHour, booked}
 use Rattle.history.specs.Promises.{bookedAll, BookedRecordsArePossible}
-use Rattle.record.proofs.Possible.{and-split, Possible, possible-is, is-possible, possible-at}
+use Rattle.settling.proofs.PossibleGroups.{and-split, Possible, possible-is, is-possible, possible-at}
 
 -- one more error within the bounds
 possible-more : (g : Group) (e : ℤ) → Possible g → g .count < 1000 → natAbs e ≤ 20000000 → Possible (withError g e)

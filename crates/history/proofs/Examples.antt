@@ -4,14 +4,15 @@ use mathlib.Core.Bool.{true, false}
 use mathlib.Core.List.{[], _∷_}
 use lib.IntN.{pos, negsuc}
 use Rattle.integer.specs.Floor.{floorDiv}
-use Rattle.integer.specs.Quadratic.{quadratic}
+use Rattle.quadratic.specs.Quadratic.{quadratic}
 use Rattle.integer.specs.Root.{rootOf, rootIn, raised}
 use Rattle.curve_set.specs.declared.answer.Answer.the-variants as answer
 use Rattle.record.specs.declared.Group.{Group}
 use Rattle.curve_set.specs.Answer.{refusal}
-use Rattle.record.specs.Record.{noHours, fresh, groupAt, withGroup, meanOf, squaresAround, notNegative, possible}
+use Rattle.record.specs.Record.{noHours, fresh, groupAt, withGroup}
+use Rattle.settling.specs.Possible.{meanOf, squaresAround, notNegative, possible}
 use Rattle.history.specs.Booking.{withError, bookError}
-use Rattle.record.specs.Settle.{spreadOf, settledGroups}
+use Rattle.settling.specs.Settle.{spreadOf, settledGroups}
 
 -- the errors −1 and 2, and −1 and 0
 abbrev pub minus-one-two : Group

@@ -3,4 +3,3 @@ pub mod Closure
 pub mod Shift
 pub mod Booked
 pub mod Examples
-pub mod KnownSettling

@@ -12,7 +12,7 @@ use lib.Seq.{set-out, getD-set-same, getD-set-other}
 use Rattle.integer.specs.Floor.{floorDiv}
 use Rattle.integer.proofs.Difference.{view, toℕ, toℕ-products}
 use Rattle.integer.proofs.Floor.{floor-shift}
-use Rattle.integer.proofs.Quadratic.{quadratic-shift}
+use Rattle.quadratic.proofs.Quadratic.{quadratic-shift}
 use Rattle.text.specs.Choice.{pick}
 use Rattle.text.specs.declared.refusal.Refusal.{Refusal}
 use Rattle.curve_set.specs.declared.answer.Answer.{Answer}
@@ -20,9 +20,10 @@ use Rattle.curve_set.specs.declared.answer.Answer.the-variants as answer
 use Rattle.record.specs.declared.Group.{Group}
 use Rattle.record.specs.declared.Record.{Record}
 use Rattle.hour.specs.Hour.{Hour, Run, HourAnswer, read, refused, hourIn, hourAhead, hourGroup, errorOf, scedSum}
-use Rattle.record.specs.Record.{noHours, fresh, groupAt, withGroup, meanOf, squaresAround, allPossible}
+use Rattle.record.specs.Record.{noHours, fresh, groupAt, withGroup}
+use Rattle.settling.specs.Possible.{meanOf, squaresAround, allPossible}
 use Rattle.history.specs.Booking.{withError, kept, bookError, bookHour, booked}
-use Rattle.record.specs.Settle.{spreadOf}
+use Rattle.settling.specs.Settle.{spreadOf}
 use Rattle.history.specs.Promises.{bookedAll, HourLowered, hour-lowered, PlaceLowered, both-refused, both-accepted, ListsLowered, LoweredErrorsLowerMeans}
 
 -- ---- one group: every error of the second is lower by d

@@ -1,4 +1,3 @@
--- Document 01, "History to curves": booking hours; two lists of bookings; known values of settling.
+-- Document 01, "History to curves": booking hours; two lists of bookings.
 pub mod Booking
-pub mod Known
 pub mod Promises

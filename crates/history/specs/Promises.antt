@@ -3,13 +3,13 @@ use Prim.Native.Nat.{ℕ, _<_}
 use mathlib.Core.Path.{_≡_}
 use mathlib.Core.Bool.{true}
 use mathlib.Core.List.{List, [], _∷_}
-use lib.IntN.{ℤ, pos, _-ℤ_}
+use lib.IntN.{pos, _-ℤ_}
 use Rattle.text.specs.declared.refusal.Refusal.{Refusal}
-use Rattle.curve_set.specs.Curves.{curvesInRange}
 use Rattle.hour.specs.Hour.{Hour, Run, HourAnswer, read, hourIn, hourAhead}
-use Rattle.record.specs.Record.{fresh, groupAt, meanOf, allPossible}
+use Rattle.record.specs.Record.{fresh, groupAt}
+use Rattle.settling.specs.Possible.{meanOf, allPossible}
 use Rattle.history.specs.Booking.{booked}
-use Rattle.record.specs.Settle.{spreadOf, settled}
+use Rattle.settling.specs.Settle.{spreadOf}
 use Rattle.curve_set.specs.declared.answer.Answer.{Answer}
 use Rattle.curve_set.specs.declared.answer.Answer.the-variants as answer
 use Rattle.record.specs.declared.Record.{Record}

@@ -3,7 +3,7 @@ ghost use mathlib.Core.Path.{_≡_};
 ghost use mathlib.Core.Bool.{true};
 ghost use Prim.Native.Nat.{_≤_, _<_};
 ghost use lib.IntN.{natAbs};
-ghost use Rattle.record.specs.Record.{SmallGroup, allPossible};
+ghost use Rattle.settling.specs.Possible.{SmallGroup, allPossible};
 ghost use Rattle.history.specs.Booking.{withError, kept, bookError, booked};
 use curve_set::answer::Answer;
 use hour::read::ReadHour;
@@ -11,7 +11,7 @@ use hour::read::read_hour;
 use integer::magnitude;
 use record::Group;
 use record::Record;
-use record::all_possible;
+use settling::possible::all_possible;
 use text::refusal::Refusal;
 
 // A record after an hour was booked, or as it was before where the hour was refused.

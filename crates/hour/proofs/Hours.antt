@@ -4,7 +4,7 @@ use native.Mathlib.Nat.{add-zero}
 use native.Mathlib.Omega.{arith}
 use mathlib.Core.Bool.{Bool, true, false}
 use mathlib.Core.List.{List, [], _∷_}
-use mathlib.Core.Path.{_≡_, refl, sym, ap, _∙_}
+use mathlib.Core.Path.{_≡_, refl, sym, _∙_}
 use lib.Dec.{ltb}
 use lib.IntN.{ℤ, pos, negℤ, natAbs, _+ℤ_, _-ℤ_}
 use lib.Signed.{_≤ℤ_}
@@ -16,18 +16,18 @@ use Rattle.integer.proofs.Difference.{view, toℕ}
 use Rattle.integer.proofs.Floor.{floor-bound}
 use Rattle.text.specs.Choice.{pick}
 use Rattle.text.specs.Bytes.{bytes}
-use Rattle.text.specs.Piece.{piecesFrom}
-use Rattle.line.specs.Line.{endAt}
+use Rattle.piece.specs.Piece.{piecesFrom}
+use Rattle.answers.specs.Answers.{endAt}
 use Rattle.text.specs.Refusal.{refusalOf}
 use Rattle.line.specs.Field.{Field}
 use Rattle.block.specs.Block.{Reading, readFields, repeated, numberFields, keysOf, placedFields, BlockRead, value}
 use Rattle.season.specs.Season.{groupOf, seasonOf, blockOf}
 use Rattle.text.specs.declared.refusal.Fault.{Fault}
-use Rattle.line.specs.declared.End.{End}
-use Rattle.line.specs.declared.End.the-variants as end
-use Rattle.block.specs.declared.Block.{Block}
-use Rattle.block.specs.declared.Block.the-variants as block
-use Rattle.hour.specs.Hour.{Hour, hourFields, hourOf, Run, runFields, runsOf, HourAnswer, read, refused, afterRuns, afterRunBlock, runsAt, afterHourBlock, hourIn, hourAhead, scedSum, errorOf, hourGroup, errorAnswer, intervalsOf, intervalsIn, intervalFault, moved, Bounded}
+use Rattle.answers.specs.declared.End.{End}
+use Rattle.answers.specs.declared.End.the-variants as end
+use Rattle.answers.specs.declared.Block.{Block}
+use Rattle.answers.specs.declared.Block.the-variants as block
+use Rattle.hour.specs.Hour.{Hour, hourFields, hourOf, Run, runFields, runsOf, read, refused, afterRuns, afterRunBlock, runsAt, afterHourBlock, hourIn, hourAhead, scedSum, errorOf, hourGroup, errorAnswer, intervalsOf, intervalsIn, intervalFault, moved, Bounded}
 use Rattle.hour.specs.declared.read.Intervals.{Intervals}
 use Rattle.hour.specs.declared.read.Intervals.the-variants as intervals
 use Rattle.hour.specs.declared.read.ReadHour.{ReadHour}

@@ -2,19 +2,20 @@
 use Prim.Native.Nat.{ℕ, zero, suc, _+_, _-_, _*_, _≤_, _<_}
 use native.Mathlib.Nat.{sub-zero}
 use native.Mathlib.Omega.{arith}
-use mathlib.Core.List.{List, [], _∷_, _++_}
+use mathlib.Core.List.{List, _++_}
 use mathlib.Core.Path.{_≡_, refl, sym, ap, _∙_}
 use lib.IntN.{ℤ, pos, natAbs, _+ℤ_, _-ℤ_, +ℤ-assoc, +ℤ-idl, +ℤ-idr}
 use lib.ListN.{length, replicate, drop, List·getD-append}
 use lib.Seq.{drop-at}
 use Rattle.integer.proofs.Bounds.{abs-add, abs-sub}
-use Rattle.text.specs.Piece.{piecesFrom}
+use Rattle.piece.specs.Piece.{piecesFrom}
 use Rattle.text.specs.Bytes.{bytes}
-use Rattle.block.specs.Block.{Reading, readFields, repeated, numberFields, keysOf, placedFields, BlockRead, value, blockFault}
+use Rattle.block.specs.Block.{Reading, readFields, repeated, numberFields, keysOf, placedFields, BlockRead, value}
 use Rattle.text.specs.declared.refusal.Fault.{Fault}
-use Rattle.block.specs.declared.Block.{Block}
-use Rattle.block.specs.declared.Block.the-variants as block
-use Rattle.hour.specs.Hour.{Run, runFields, runOf, runsOf, scedReserve, scedSum, intervalsOf, intervalsIn, intervalFault, Bounded}
+use Rattle.answers.specs.Answers.{blockFault}
+use Rattle.answers.specs.declared.Block.{Block}
+use Rattle.answers.specs.declared.Block.the-variants as block
+use Rattle.hour.specs.Hour.{runFields, runOf, runsOf, scedReserve, scedSum, intervalsOf, intervalsIn, intervalFault, Bounded}
 use Rattle.hour.specs.declared.read.Intervals.{Intervals}
 use Rattle.hour.specs.declared.read.Intervals.the-variants as intervals
 use Rattle.block.proofs.Shifted.{reading-within}

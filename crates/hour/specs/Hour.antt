@@ -1,23 +1,23 @@
 -- Document 01, "History to curves": one hour's text, its reserves, and the reserve error.
 use Prim.Native.Nat.{ℕ, zero, suc, _+_, _≤_}
-use mathlib.Core.List.{List, [], _∷_, _++_}
+use mathlib.Core.List.{List, [], _∷_}
 use lib.Dec.{ltb}
 use lib.IntN.{ℤ, pos, negℤ, natAbs, _+ℤ_, _-ℤ_}
-use lib.ListN.{length, getD, drop}
+use lib.ListN.{length, drop}
 use Rattle.integer.specs.Floor.{floorDiv}
 use Rattle.text.specs.Choice.{pick}
 use Rattle.text.specs.Bytes.{bytes}
 use Rattle.text.specs.Refusal.{refusalOf}
-use Rattle.line.specs.Line.{fault, endAt}
+use Rattle.answers.specs.Answers.{fault, endAt}
 use Rattle.line.specs.Field.{Field}
 use Rattle.number.specs.Field.{numberField}
 use Rattle.block.specs.Block.{Reading, readFields, repeated, value}
 use Rattle.text.specs.declared.refusal.Fault.{Fault}
 use Rattle.text.specs.declared.refusal.Refusal.{Refusal}
-use Rattle.line.specs.declared.End.{End}
-use Rattle.line.specs.declared.End.the-variants as end
-use Rattle.block.specs.declared.Block.{Block}
-use Rattle.block.specs.declared.Block.the-variants as block
+use Rattle.answers.specs.declared.End.{End}
+use Rattle.answers.specs.declared.End.the-variants as end
+use Rattle.answers.specs.declared.Block.{Block}
+use Rattle.answers.specs.declared.Block.the-variants as block
 use Rattle.season.specs.Season.{groupOf}
 use Rattle.hour.specs.declared.read.Intervals.{Intervals}
 use Rattle.hour.specs.declared.read.Intervals.the-variants as intervals

@@ -5,8 +5,8 @@ ghost use Rattle.block.specs.Block.{readFields};
 ghost use Rattle.hour.specs.Hour.{runFields, intervalsOf, intervalsIn, intervalFault, moved};
 use crate::read::Intervals;
 use crate::reserve::sced_reserve;
-use block::Block;
-use block::block_fault;
+use answers::Block;
+use answers::block_fault;
 use block::read_block;
 use text::refusal::Fault;
 

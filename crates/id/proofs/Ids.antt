@@ -10,12 +10,14 @@ use lib.Seq.{drop-cons}
 use borrow.Author.Tests.{lt-ltb, le-ltb, le-leb, lt-leb}
 use Rattle.id.specs.Id.{isIdByte, allIdBytes, isId, idField, idAnswer}
 use Rattle.text.specs.Choice.{pick}
-use Rattle.line.specs.Line.{lineAt, part, faultOf}
+use Rattle.line.specs.Line.{lineAt}
+use Rattle.piece.specs.Piece.{part}
 use Rattle.line.specs.Field.{good, bad, refused, fieldAt, judged}
 use Rattle.text.specs.declared.refusal.Fault.{Fault}
-use Rattle.line.specs.declared.Line.{Line}
-use Rattle.line.specs.declared.Line.the-variants as line
+use Rattle.answers.specs.declared.Line.{Line}
+use Rattle.answers.specs.declared.Line.the-variants as line
 use Rattle.line.proofs.Fields.{field-refused, field-value}
+use Rattle.answers.specs.Answers.{lineFault}
 
 module _ (value : List ℕ) where
   pub id-none : length value ≡ 0 → false ≡ isId value
@@ -51,7 +53,7 @@ module _ {value : List ℕ} {i : ℕ} (from : IdFrom value i) where
 -- a line judged as an id, from what the readers of the line and of its value say
 module _ (key text : List ℕ) (at : ℕ) {l : Line} (read : l ≡ lineAt key text at) where
   pub id-refused : {found : Fault} → l ≡ line.Refused found → idAnswer text l ≡ fieldAt (idField key) text at
-  id-refused told = ap (idAnswer text) told ∙ ap refused (sym (ap faultOf told)) ∙ field-refused (idField key) text at read told
+  id-refused told = ap (idAnswer text) told ∙ ap refused (sym (ap lineFault told)) ∙ field-refused (idField key) text at read told
 
   pub id-value :
       {start end next : ℕ} {value : List ℕ} {test said : Bool} →

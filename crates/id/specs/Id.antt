@@ -1,14 +1,14 @@
 -- Document 01, "Snapshot to reserves": an id is 1 to 16 of A-Z, 0-9, _. Any other value is badly written (6).
-use Prim.Native.Nat.{ℕ, zero, suc}
-use mathlib.Core.Bool.{Bool, true, false, _&&_, _||_}
+use Prim.Native.Nat.{ℕ}
+use mathlib.Core.Bool.{Bool, true, _&&_, _||_}
 use mathlib.Core.List.{List, [], _∷_}
 use lib.Dec.{eqb, leb, ltb}
 use lib.ListN.{length}
 use Rattle.text.specs.Choice.{pick}
-use Rattle.line.specs.Line.{part}
-use Rattle.line.specs.Field.{Judged, good, bad, Field, Answer, got, refused}
-use Rattle.line.specs.declared.Line.{Line}
-use Rattle.line.specs.declared.Line.the-variants as line
+use Rattle.piece.specs.Piece.{part}
+use Rattle.line.specs.Field.{good, bad, Field, Answer, got, refused}
+use Rattle.answers.specs.declared.Line.{Line}
+use Rattle.answers.specs.declared.Line.the-variants as line
 
 -- `0` to `9`, `A` to `Z`, `_`
 abbrev pub isIdByte : ℕ → Bool

@@ -1,11 +1,10 @@
 // Ids: 1 to 16 bytes of A to Z, 0 to 9 and _.
 ghost use mathlib.Core.Path.{_≡_};
-ghost use lib.ListN.{length, drop};
 ghost use Rattle.id.specs.Id.{isIdByte, isId, idField, idAnswer};
 ghost use Rattle.line.specs.Field.{fieldAt};
-use line::Line;
+use answers::Line;
 use line::line_at;
-use line::part;
+use piece::part;
 use text::refusal::Fault;
 
 fn is_id_byte(byte: u8) -> bool

@@ -2,6 +2,5 @@ pub mod Bounds
 pub mod Difference
 pub mod Floor
 pub mod Order
-pub mod Quadratic
 pub mod Signed
 pub mod SquareRoot

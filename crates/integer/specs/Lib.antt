@@ -1,4 +1,3 @@
 pub mod Floor
 pub mod Order
-pub mod Quadratic
 pub mod Root

@@ -7,25 +7,14 @@ use mathlib.Core.List.{List, [], _∷_}
 use mathlib.Core.Path.{_≡_, sym, _∙_}
 use lib.ListN.{length, take, drop, getD, drop-of-length-le, length-drop}
 use lib.Dec.{eqb}
-use lib.Seq.{drop-cons, drop-drop, take-nil, take-all}
+use lib.Seq.{drop-cons, drop-drop, take-nil}
 use borrow.Author.Tests.{lt-ltb, le-ltb, eq-eqb, ne-eqb}
 use Rattle.text.specs.Choice.{pick}
-use Rattle.line.specs.Line.{lineLength, begins, part, fault, lineIn, lineAt}
-use Rattle.line.specs.declared.Line.the-variants as line
-
--- no bytes: a part from the text's end on, or up to its own start
-pub part-past : (s : List ℕ) (i j : ℕ) → length s ≤ i → [] ≡ part s i j
-part-past s i j h = rw (drop-of-length-le s {i = i} h, take-nil)
-
-pub part-none : (s : List ℕ) (i j : ℕ) → j ≤ i → [] ≡ part s i j
-part-none s i j h = let e : j - i ≡ 0 = omega arith in rw e
-
--- a part that reaches the text's end
-pub part-rest : (s : List ℕ) (i j : ℕ) → length s ≤ j → part s i (length s) ≡ part s i j
-part-rest s i j h = rw (take-all (j - i) (drop i s) (omega (arith, length-drop i s)), take-all (length s - i) (drop i s) (omega (arith, length-drop i s)))
-
-pub part-whole : (s : List ℕ) (i : ℕ) → part s i (length s) ≡ drop i s
-part-whole s i = take-all (length s - i) (drop i s) (omega (arith, length-drop i s))
+use Rattle.line.specs.Line.{lineLength, begins, lineIn, lineAt}
+use Rattle.piece.specs.Piece.{part}
+use Rattle.piece.proofs.Parts.{part-whole}
+use Rattle.answers.specs.Answers.{fault}
+use Rattle.answers.specs.declared.Line.the-variants as line
 
 module _ (s : List ℕ) (i : ℕ) where
   pub line-over : length s ≤ i → lineLength (drop i s) ≡ 0

@@ -1,10 +1,12 @@
 -- A line of any kind of value: how its value is read and written, and what reading the line gives.
 use Prim.Native.Nat.{ℕ}
 use mathlib.Core.List.{List}
-use Rattle.line.specs.Line.{lineAt, part, fault}
+use Rattle.line.specs.Line.{lineAt}
+use Rattle.piece.specs.Piece.{part}
 use Rattle.text.specs.declared.refusal.Fault.{Fault}
-use Rattle.line.specs.declared.Line.{Line}
-use Rattle.line.specs.declared.Line.the-variants as line
+use Rattle.answers.specs.Answers.{fault}
+use Rattle.answers.specs.declared.Line.{Line}
+use Rattle.answers.specs.declared.Line.the-variants as line
 
 -- what the bytes of a value give: the value, or the number of a refusal
 pub data Judged (A : Type 0) : Type 0 where

@@ -1,15 +1,13 @@
--- Document 01, "Texts": a text is lines `key=value`, each ended by byte 10. Refusals 3, 4, 5 and 9.
-use Prim.Native.Nat.{ℕ, zero, suc, _+_, _-_}
+-- Document 01, "Texts": a text is lines `key=value`, each ended by byte 10. Refusals 3, 4 and 5.
+use Prim.Native.Nat.{ℕ, suc, _+_}
 use mathlib.Core.Bool.{Bool, true, false}
 use mathlib.Core.List.{List, [], _∷_}
 use lib.Dec.{eqb, ltb}
 use lib.ListN.{length, take, drop}
 use Rattle.text.specs.Choice.{pick}
-use Rattle.text.specs.declared.refusal.Fault.{Fault}
-use Rattle.line.specs.declared.Line.{Line}
-use Rattle.line.specs.declared.Line.the-variants as line
-use Rattle.line.specs.declared.End.{End}
-use Rattle.line.specs.declared.End.the-variants as end
+use Rattle.answers.specs.Answers.{fault}
+use Rattle.answers.specs.declared.Line.{Line}
+use Rattle.answers.specs.declared.Line.the-variants as line
 
 -- how many bytes stand before the first byte 10, or at all where there is none
 unfoldable pub lineLength : List ℕ → ℕ
@@ -21,13 +19,6 @@ unfoldable pub begins : List ℕ → List ℕ → Bool
 begins [] line = true
 begins (letter ∷ key) [] = false
 begins (letter ∷ key) (byte ∷ line) = pick (eqb byte letter) (begins key line) false
-
--- the bytes from one position to another
-abbrev pub part : List ℕ → ℕ → ℕ → List ℕ
-part text start end = take (end - start) (drop start text)
-
-abbrev pub fault : ℕ → ℕ → Fault
-fault number at = record { number = number; at = at }
 
 -- the line due at a position, `rest` being the text from there on: 3 where it lacks its byte 10, 4 where it does not begin with the key and `=`, 5 where
 -- its value is empty
@@ -43,17 +34,3 @@ lineIn key rest at =
 
 abbrev pub lineAt : List ℕ → List ℕ → ℕ → Line
 lineAt key text at = lineIn key (drop at text) at
-
--- 9 where bytes follow the last due line
-abbrev pub endAt : List ℕ → ℕ → End
-endAt text at = pick (ltb at (length text)) (end.Refused (fault 9 at)) end.Reached
-
--- the fault of a refused line; a line that is not refused has the number 0, which stands for no refusal
-abbrev pub faultOf : Line → Fault
-faultOf (line.Value start end next) = fault 0 next
-faultOf (line.Refused refused) = refused
-
--- the fault of bytes after the last due line
-abbrev pub endFault : End → Fault
-endFault end.Reached = fault 0 0
-endFault (end.Refused refused) = refused

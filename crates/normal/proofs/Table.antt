@@ -1,14 +1,14 @@
 -- The table's rule and its rising order, at each of its 501 entries, by one test that antt computes over the whole table.
 -- Assumes nothing.
-use mathlib.Core.Path.{_≡_, refl}
+use mathlib.Core.Path.{_≡_, refl, ap, ap₂, _∙_}
 use mathlib.Core.Bool.{Bool, true, false}
 use mathlib.Core.List.{List, [], _∷_}
-use Prim.Native.Nat.{ℕ, zero, suc, _+_, _-_, _≤_, _<_, zero-le}
+use Prim.Native.Nat.{ℕ, zero, suc, _+_, _-_, _≤_, _<_, _*_, _^_, _/_, zero-le}
 use native.Mathlib.Nat.{add-zero, zero-add, add-suc, suc-add, le-of-suc-le-suc, not-suc-le-zero, le-refl, add-sub-of-le}
 use native.Mathlib.Omega.{arith}
 use lib.Dec.{T, eqb, ltb, eqb→eq, ltb→lt}
 use lib.ListN.{length, getD}
-use Rattle.normal.specs.Knot.{knot}
+use Rattle.normal.specs.Knot.{common, denominator, term, evenTerms, oddTerms, knot}
 
 abbrev both : Bool → Bool → Bool
 both true b = b
@@ -22,36 +22,82 @@ both-right : (a b : Bool) → T (both a b) → T b
 both-right true b t = t
 both-right false b t = absurd t
 
+-- ---- the rule, with the factors of the series' terms apart, so that they are computed once: the last term's factor first
+
+abbrev evenFactors : ℕ → List ℕ
+evenFactors zero = []
+evenFactors (suc m) = common / denominator (2 * m) ∷ evenFactors m
+
+abbrev oddFactors : ℕ → List ℕ
+oddFactors zero = []
+oddFactors (suc m) = common / denominator (2 * m + 1) ∷ oddFactors m
+
+abbrev evenBy : ℕ → ℕ → List ℕ → ℕ
+evenBy k zero factors = 0
+evenBy k (suc m) [] = 0
+evenBy k (suc m) (factor ∷ factors) = evenBy k m factors + k ^ (2 * (2 * m) + 1) * factor
+
+abbrev oddBy : ℕ → ℕ → List ℕ → ℕ
+oddBy k zero factors = 0
+oddBy k (suc m) [] = 0
+oddBy k (suc m) (factor ∷ factors) = oddBy k m factors + k ^ (2 * (2 * m + 1) + 1) * factor
+
+even-by : (k m : ℕ) → evenBy k m (evenFactors m) ≡ evenTerms k m
+even-by k zero = refl
+even-by k (suc m) = ap (λ (terms : ℕ). terms + term k (2 * m)) (even-by k m)
+
+odd-by : (k m : ℕ) → oddBy k m (oddFactors m) ≡ oddTerms k m
+odd-by k zero = refl
+odd-by k (suc m) = ap (λ (terms : ℕ). terms + term k (2 * m + 1)) (odd-by k m)
+
+-- T(k) from the sums of its even and of its odd terms
+abbrev knotOf : ℕ → ℕ → ℕ
+knotOf even odd = (10 ^ 9 * (10 ^ 16 * common + 2 * 3989422804014327 * (even - odd)) + 10 ^ 16 * common) / (2 * (10 ^ 16 * common))
+
+abbrev knotBy : List ℕ → List ℕ → ℕ → ℕ
+knotBy evens odds k = knotOf (evenBy k 30 evens) (oddBy k 30 odds)
+
+knot-by : (k : ℕ) → knotBy (evenFactors 30) (oddFactors 30) k ≡ knot k
+unfolding knot
+knot-by k = ap₂ knotOf (even-by k 30) (odd-by k 30)
+
 -- the entry x at place k is T(k), and the next one lies above it, by less than 4000000
 pub record Entry (k x next : ℕ) : Type 0 where
   pub rule : x ≡ knot k
   pub rises : x < next
   pub near : next < x + 4000000
 
-abbrev test : ℕ → ℕ → ℕ → Bool
-test k x next = both (eqb x (knot k)) (both (ltb x next) (ltb next (x + 4000000)))
+abbrev test : List ℕ → List ℕ → ℕ → ℕ → ℕ → Bool
+test evens odds k x next = both (eqb x (knotBy evens odds k)) (both (ltb x next) (ltb next (x + 4000000)))
 
-entry : (k x next : ℕ) → T (test k x next) → Entry k x next
+-- the factors of all sixty terms
+abbrev evens : List ℕ
+evens = evenFactors 30
+
+abbrev odds : List ℕ
+odds = oddFactors 30
+
+entry : (k x next : ℕ) → T (test evens odds k x next) → Entry k x next
 entry k x next t =
-    let order = both-right (eqb x (knot k)) (both (ltb x next) (ltb next (x + 4000000))) t in
+    let order = both-right (eqb x (knotBy evens odds k)) (both (ltb x next) (ltb next (x + 4000000))) t in
     record {
-      rule = eqb→eq x (knot k) (both-left (eqb x (knot k)) (both (ltb x next) (ltb next (x + 4000000))) t);
+      rule = eqb→eq x (knotBy evens odds k) (both-left (eqb x (knotBy evens odds k)) (both (ltb x next) (ltb next (x + 4000000))) t) ∙ knot-by k;
       rises = ltb→lt x next (both-left (ltb x next) (ltb next (x + 4000000)) order);
       near = ltb→lt next (x + 4000000) (both-right (ltb x next) (ltb next (x + 4000000)) order);
     }
 
 -- the test at each entry of a list, whose places are counted from i. After the last entry comes 10^9, which is N from 500 on
-abbrev tests : ℕ → List ℕ → Bool
-tests i [] = true
-tests i (x ∷ xs) = both (test i x (getD xs 0 1000000000)) (tests (suc i) xs)
+abbrev tests : List ℕ → List ℕ → ℕ → List ℕ → Bool
+tests evens odds i [] = true
+tests evens odds i (x ∷ xs) = both (test evens odds i x (getD xs 0 1000000000)) (tests evens odds (suc i) xs)
 
-from : (d : ℕ) (xs : List ℕ) (i : ℕ) → T (tests i xs) → (k : ℕ) → k < length xs → Entry (i + k) (getD xs k d) (getD xs (suc k) 1000000000)
+from : (d : ℕ) (xs : List ℕ) (i : ℕ) → T (tests evens odds i xs) → (k : ℕ) → k < length xs → Entry (i + k) (getD xs k d) (getD xs (suc k) 1000000000)
 from d [] i t k h = absurd (not-suc-le-zero h)
 from d (x ∷ xs) i t zero h =
-    rw (add-zero i) (entry i x (getD xs 0 1000000000) (both-left (test i x (getD xs 0 1000000000)) (tests (suc i) xs) t))
+    rw (add-zero i) (entry i x (getD xs 0 1000000000) (both-left (test evens odds i x (getD xs 0 1000000000)) (tests evens odds (suc i) xs) t))
 from d (x ∷ xs) i t (suc k) h =
     rw (add-suc i k, ← suc-add i k)
-    (from d xs (suc i) (both-right (test i x (getD xs 0 1000000000)) (tests (suc i) xs) t) k (le-of-suc-le-suc h))
+    (from d xs (suc i) (both-right (test evens odds i x (getD xs 0 1000000000)) (tests evens odds (suc i) xs) t) k (le-of-suc-le-suc h))
 
 -- the entries of the source's table
 unfoldable pub knots : List ℕ
@@ -108,8 +154,8 @@ knots =
     ∷ 999999521 ∷ 999999545 ∷ 999999567 ∷ 999999589 ∷ 999999609 ∷ 999999629 ∷ 999999648 ∷ 999999665 ∷ 999999682 ∷ 999999698
     ∷ 999999713 ∷ []
 
-tested : T (tests 0 knots)
-unfolding knots knot
+tested : T (tests evens odds 0 knots)
+unfolding knots
 tested = tt
 
 -- the rule and the order at each entry; d is what a read past the end would give

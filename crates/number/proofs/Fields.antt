@@ -3,11 +3,12 @@ use Prim.Native.Nat.{ℕ}
 use lib.IntN.{ℤ}
 use mathlib.Core.List.{List}
 use mathlib.Core.Path.{_≡_, ap, sym, _∙_}
-use Rattle.line.specs.Line.{lineAt, part}
+use Rattle.line.specs.Line.{lineAt}
+use Rattle.piece.specs.Piece.{part}
 use Rattle.line.specs.Field.{fieldAt, judged}
 use Rattle.line.proofs.Fields.{field-value}
-use Rattle.line.specs.declared.Line.{Line}
-use Rattle.line.specs.declared.Line.the-variants as line
+use Rattle.answers.specs.declared.Line.{Line}
+use Rattle.answers.specs.declared.Line.the-variants as line
 use Rattle.number.specs.Number.{numberIn}
 use Rattle.number.specs.Field.{numberField, judgedNumber}
 use Rattle.number.specs.declared.Number.{Number}

@@ -3,21 +3,22 @@ use Prim.Native.Nat.{ℕ, zero, suc, _+_, _-_, _*_, _≤_, _<_, min}
 use native.Mathlib.Nat.{add-sub-cancel-left}
 use native.Mathlib.Numerals.{add-one}
 use native.Mathlib.Omega.{arith}
-use mathlib.Core.Bool.{Bool, true, false, _&&_}
+use mathlib.Core.Bool.{true, false}
 use mathlib.Core.List.{List, [], _∷_, _++_}
 use mathlib.Core.Option.{some}
 use mathlib.Core.Path.{_≡_, refl, ap, sym, _∙_}
-use lib.Dec.{eqb, leb}
+use lib.Dec.{leb}
 use lib.IntN.{ℤ, pos}
 use lib.ListN.{length, take, drop, getD, length-take, length-drop, take-append-drop}
-use lib.Seq.{drop-cons, drop-drop, take-suc, take-all, getD-take}
+use lib.Seq.{drop-drop, take-suc, take-all, getD-take}
 use borrow.Author.Tests.{le-leb, leb-true, eq-eqb, ne-eqb}
-use Rattle.text.specs.Choice.{pick}
 use Rattle.text.proofs.Choices.{and-left, and-right}
-use Rattle.line.specs.Line.{lineLength, begins, part, lineAt}
+use Rattle.line.specs.Line.{lineLength, begins, lineAt}
+use Rattle.piece.specs.Piece.{part}
 use Rattle.line.specs.Field.{fieldAt, judged}
-use Rattle.line.specs.declared.Line.the-variants as line
-use Rattle.line.proofs.Lines.{part-whole, line-after, value-line}
+use Rattle.answers.specs.declared.Line.the-variants as line
+use Rattle.line.proofs.Lines.{line-after, value-line}
+use Rattle.piece.proofs.Parts.{part-whole}
 use Rattle.line.proofs.Fields.{field-value}
 use Rattle.number.specs.Number.{isDigit, allDigits, valueOf, plain, numberOf, inRange, ranged, numberIn}
 use Rattle.number.specs.Field.{numberField, judgedNumber}

@@ -2,14 +2,12 @@
 use mathlib.Core.List.{List}
 use Prim.Native.Nat.{ℕ}
 use lib.IntN.{ℤ}
-use Rattle.text.specs.declared.refusal.Fault.{Fault}
-use Rattle.line.specs.Line.{fault}
 use Rattle.line.specs.Field.{Judged, good, bad, Field, Answer, got, refused}
 use Rattle.number.specs.Number.{numberIn, writtenNumber}
 use Rattle.number.specs.declared.Number.{Number}
 use Rattle.number.specs.declared.Number.the-variants as number
-use Rattle.number.specs.declared.NumberLine.{NumberLine}
-use Rattle.number.specs.declared.NumberLine.the-variants as number-line
+use Rattle.answers.specs.declared.NumberLine.{NumberLine}
+use Rattle.answers.specs.declared.NumberLine.the-variants as number-line
 
 -- document 01's number for each case of a number's answer
 abbrev pub judgedNumber : Number → Judged ℤ
@@ -29,8 +27,3 @@ numberField key low high =
 abbrev pub numberAnswer : NumberLine → Answer ℤ
 numberAnswer (number-line.Value value next) = got value next
 numberAnswer (number-line.Refused found) = refused found
-
--- the fault of a refused number; 0 stands for no refusal
-abbrev pub numberFault : NumberLine → Fault
-numberFault (number-line.Value value next) = fault 0 next
-numberFault (number-line.Refused found) = found

@@ -7,13 +7,14 @@ ghost use lib.IntN.{negsuc};
 ghost use lib.ListN.{drop};
 ghost use Rattle.number.specs.Number.{allDigits, plain, inRange, numberIn};
 ghost use Rattle.line.specs.Field.{fieldAt, judged};
-ghost use Rattle.number.specs.Field.{numberField, numberAnswer, judgedNumber, numberFault};
+ghost use Rattle.number.specs.Field.{numberField, numberAnswer, judgedNumber};
 use crate::natural::magnitude_of;
 use crate::natural::natural_at;
-use line::Line;
-use line::fault_of;
+use answers::Line;
+use answers::NumberLine;
+use answers::line_fault;
 use line::line_at;
-use line::part;
+use piece::part;
 use text::refusal::Fault;
 
 // What the bytes of a value say.
@@ -23,12 +24,6 @@ pub enum Number {
     Outside,
     // Badly written (6).
     Malformed,
-}
-
-// What the number reader finds at a position.
-pub enum NumberLine {
-    Value { value: i64, next: usize },
-    Refused(Fault),
 }
 
 // Whether the bytes from a position on are digits alone.
@@ -135,20 +130,7 @@ pub fn number_at(text: &[u8], at: usize, key: &[u8], low: i64, high: i64) -> Num
     }
     let l = line_at(text, at, key);
     let Line::Value { start, end, next } = l else {
-        return NumberLine::Refused(fault_of(l));
+        return NumberLine::Refused(line_fault(l));
     };
     number_answer(number_in(part(text, start, end), low, high), at, next)
-}
-
-// The fault of a refused number.
-pub fn number_fault(line: NumberLine) -> Fault
-    ensures { λ r. ⌜ r ≡ numberFault line ⌝ }
-{
-    match line {
-        NumberLine::Refused(fault) => fault,
-        NumberLine::Value { value: _, next } => Fault {
-            number: 0,
-            at: next,
-        },
-    }
 }

@@ -5,10 +5,11 @@ ghost use mathlib.Core.Option.{some};
 ghost use Prim.Native.Nat.{_≤_, _<_, min};
 ghost use lib.IntN.{pos};
 ghost use lib.ListN.{length, take, drop};
-ghost use Rattle.line.specs.Line.{lineLength, begins, part};
+ghost use Rattle.line.specs.Line.{lineLength, begins};
+ghost use Rattle.piece.specs.Piece.{part};
 ghost use Rattle.number.specs.Number.{allDigits, valueOf, numberOf};
 use line::begins_with;
-use line::part;
+use piece::part;
 
 // A natural number and how many bytes it takes; none where it takes no bytes.
 pub(crate) struct Natural {

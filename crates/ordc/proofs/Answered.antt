@@ -1,5 +1,4 @@
 -- What a call's answer says of what is lent: laid where nothing was refused, left otherwise.
-use Prim.Native.Nat.{ℕ}
 use mathlib.Core.Bool.{Bool, true, false, not}
 use mathlib.Core.Path.{_≡_, refl}
 use lib.Dec.{eqb}

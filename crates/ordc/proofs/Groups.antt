@@ -1,18 +1,19 @@
 -- Laws on a record's numbers in the order of the layout: group after group, there and back; and what an accepted booking has.
-use Prim.Native.Nat.{ℕ, zero, suc, _+_, _*_, _<_, _≤_}
+use Prim.Native.Nat.{ℕ, zero, suc, _+_, _*_, _<_}
 use native.Mathlib.Numerals.{add-one}
 use native.Mathlib.Omega.{arith}
 use mathlib.Core.Bool.{Bool, true, false}
 use mathlib.Core.List.{List, [], _∷_, _++_, append-assoc}
-use mathlib.Core.Path.{_≡_, refl, ap, sym, _∙_}
+use mathlib.Core.Path.{_≡_, refl}
 use borrow.Author.Tests.{le-ltb}
 use lib.Dec.{eqb}
 use lib.IntN.{ℤ, pos}
 use lib.ListN.{length, take, drop, getD, set}
 use lib.Seq.{drop-cons, drop-drop, getD-drop, lt-length-set, take-suc-set}
 use Rattle.block.specs.Block.{value}
-use Rattle.record.specs.Record.{noHours, allPossible}
-use Rattle.history.specs.Booking.{kept, booked}
+use Rattle.record.specs.Record.{noHours}
+use Rattle.settling.specs.Possible.{allPossible}
+use Rattle.history.specs.Booking.{booked}
 use Rattle.history.proofs.Closure.{booked-possible}
 use Rattle.record.specs.declared.Group.{Group}
 use Rattle.record.specs.declared.Record.{Record}

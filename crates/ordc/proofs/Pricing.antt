@@ -14,7 +14,7 @@ use Rattle.sums.specs.Sums.{sumsOf}
 use Rattle.snapshot.specs.Snapshot.{SnapshotAnswer, read, turned-back, snapshotIn, resourcesOf}
 use Rattle.pricing.specs.Pricing.{pricedSnapshot, priced}
 use Rattle.snapshot.proofs.Readings.{snapshot-read, header-fault}
-use Rattle.ordc.specs.Price.{SmallPrices, SmallPricing}
+use Rattle.ordc.specs.Price.{SmallPricing}
 
 snapshot-small : (curves : CurveSet) (text : List ℕ) (a : SnapshotAnswer) → curvesInRange curves ≡ true → snapshotIn text ≡ a → SmallPricing (pricedSnapshot curves a)
 unfolding pricesOf

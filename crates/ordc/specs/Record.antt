@@ -9,7 +9,7 @@ use Rattle.block.specs.Block.{value}
 use Rattle.curve_values.specs.CurveValues.{curveValues}
 use Rattle.curve_set.specs.declared.Curves.{Curves}
 use Rattle.history.specs.Booking.{booked}
-use Rattle.record.specs.Settle.{settled}
+use Rattle.settling.specs.Settle.{settled}
 use Rattle.record.specs.declared.Group.{Group}
 use Rattle.record.specs.declared.Record.{Record}
 use Rattle.history.specs.declared.Booking.{Booking}

@@ -1,5 +1,4 @@
 -- Document 01, "Turned back, in checking order", as hosts see it: a number, 0 for none, and a line; and what a refusal leaves as it was.
-use Prim.Native.Nat.{ℕ}
 use mathlib.Core.Path.{_≡_}
 use lib.Dec.{eqb}
 use Rattle.text.specs.Choice.{pick}

@@ -1,5 +1,4 @@
 // A curve text read into a lent curve set of 50 numbers.
-ghost use mathlib.Core.Path.{_≡_};
 ghost use Rattle.ordc.specs.CurveText.{CurvesRead};
 use crate::refusal::Refusal;
 use crate::refusal::is_refusal;

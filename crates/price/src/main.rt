@@ -12,5 +12,5 @@ fn main() {
     let Written::Ended { next } = written else {
         return;
     };
-    io::write_all(STDOUT_FILENO, line::part(&output, 0, next));
+    io::write_all(STDOUT_FILENO, piece::part(&output, 0, next));
 }

@@ -1,17 +1,16 @@
 -- What is printed, by how reading the curves and pricing the snapshot ended.
-use Prim.Native.Nat.{ℕ, zero, suc, _+_, _-_, _≤_, _<_}
+use Prim.Native.Nat.{ℕ, suc, _+_, _-_, _≤_, _<_}
 use mathlib.Core.Path.{_≡_, refl, sym, ap, _∙_}
 use mathlib.Core.Bool.{Bool, true, false}
-use mathlib.Core.List.{List, [], _∷_}
+use mathlib.Core.List.{List}
 use native.Mathlib.Numerals.{add-one}
 use native.Mathlib.Omega.{arith}
 use borrow.Author.Tests.{lt-ltb, le-ltb}
-use lib.Dec.{ltb}
 use lib.ListN.{length, take, drop, length-drop}
 use lib.Seq.{take-all}
 use Rattle.text.specs.Choice.{pick}
 use Rattle.text.specs.Bytes.{bytes}
-use Rattle.line.specs.Line.{part}
+use Rattle.piece.specs.Piece.{part}
 use Rattle.text.specs.declared.refusal.Refusal.{Refusal}
 use Rattle.writer.specs.Output.{refusalLines}
 use Rattle.curve_set.specs.Curves.{curvesInRange}

@@ -1,6 +1,6 @@
 -- Document 01, "Programs": `price` reads, in at most 65536 bytes (else 2), curve text, an empty line, a snapshot. It prints six lines, or the three lines of a
 -- refusal, and nothing else.
-use Prim.Native.Nat.{ℕ, zero, suc, _≤_}
+use Prim.Native.Nat.{ℕ, suc, _≤_}
 use mathlib.Core.Bool.{Bool, true, false}
 use mathlib.Core.List.{List, [], _∷_}
 use lib.Dec.{eqb, ltb}

@@ -7,7 +7,7 @@ use adder::price::Prices;
 use adder::price::Pricing;
 use curve::read_curves;
 use curve_set::answer::Answer;
-use line::part;
+use piece::part;
 use pricing::price;
 use text::refusal::Refusal;
 use writer::Written;

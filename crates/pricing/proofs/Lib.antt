@@ -3,5 +3,3 @@ pub mod Pricing
 pub mod Raised
 pub mod Settling
 pub mod Promises
-pub mod Examples
-pub mod Witness

@@ -6,7 +6,7 @@ use mathlib.Core.List.{List}
 use lib.Signed.{_≤ℤ_, ≤ℤ-refl}
 use Rattle.text.specs.Choice.{pick}
 use Rattle.curve_set.specs.Curves.{curvesInRange}
-use Rattle.record.specs.Settle.{settled}
+use Rattle.settling.specs.Settle.{settled}
 use Rattle.record.specs.Record.{fresh}
 use Rattle.history.specs.Promises.{bookedAll}
 use Rattle.curve_set.specs.declared.CurveSet.{CurveSet}

@@ -10,7 +10,8 @@ use Rattle.text.specs.Choice.{pick}
 use Rattle.adder.specs.Sums.{plus}
 use Rattle.adder.specs.Promises.{SumsNotLower}
 use Rattle.adder.specs.declared.sums.Sums.{Sums}
-use Rattle.counted.specs.Counted.{countedOnline, countedOffline}
+use Rattle.online_units.specs.Online.{countedOnline}
+use Rattle.offline_units.specs.Offline.{countedOffline}
 use Rattle.sums.specs.Sums.{partOf, sumsOf}
 use Rattle.snapshot.specs.Snapshot.{Entry, resourcesOf}
 use Rattle.pricing.specs.Promises.{GeneratorRaised, ControllableRaised, LoadRaised, ResourceRaised, generator-raised, controllable-raised, load-raised, EntriesRaised, none-raised, one-raised}

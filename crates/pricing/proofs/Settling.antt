@@ -15,10 +15,11 @@ use Rattle.text.specs.Choice.{pick}
 use Rattle.season.specs.Season.{seasonOf, blockOf, groupOf}
 use Rattle.hour.specs.Hour.{HourAnswer, read, refused, hourIn, hourGroup, errorOf}
 use Rattle.curve_set.specs.Answer.{refusal}
-use Rattle.record.specs.Record.{noHours, fresh, groupAt, meanOf, allPossible, withGroup}
+use Rattle.record.specs.Record.{noHours, fresh, groupAt, withGroup}
+use Rattle.settling.specs.Possible.{meanOf, allPossible}
 use Rattle.history.specs.Booking.{withError, kept, bookError, bookHour, booked}
 use Rattle.curve_set.specs.Curves.{vollInRange, floorInRange, refusedCurves}
-use Rattle.record.specs.Settle.{spreadOf, pairOf, settledGroups, settledSet, settled}
+use Rattle.settling.specs.Settle.{spreadOf, pairOf, settledGroups, settledSet, settled}
 use Rattle.history.specs.Promises.{bookedAll, ListsLowered}
 use Rattle.history.proofs.Shift.{lowered-errors-lower-means}
 use Rattle.curve_set.specs.declared.answer.Answer.{Answer}

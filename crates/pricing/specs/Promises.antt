@@ -9,7 +9,7 @@ use lib.Signed.{_≤ℤ_}
 use lib.ListN.{length}
 use Rattle.text.specs.declared.refusal.Refusal.{Refusal}
 use Rattle.record.specs.Record.{fresh}
-use Rattle.record.specs.Settle.{settled}
+use Rattle.settling.specs.Settle.{settled}
 use Rattle.history.specs.Promises.{ListsLowered, bookedAll}
 use Rattle.curve_set.specs.Curves.{curvesInRange}
 use Rattle.curve_set.specs.declared.answer.Answer.the-variants as answer

@@ -1,4 +1,2 @@
--- Document 01, "History to curves": the record, and settling.
+-- Document 01, "History to curves": the record.
 pub mod Record
-pub mod Settle
-pub mod Promises

@@ -1,19 +1,19 @@
 // Runs the stored cases of `cases.bin` and writes one line for each, its answer.
-mod booking;
-mod curve_texts;
+mod case;
 mod expansion;
-mod groups;
 mod number;
 mod output;
-mod prices;
+mod rows;
+mod writing;
 
-use booking::book_case;
-use booking::settle_case;
-use curve_texts::read_case;
-use curve_texts::write_case;
-use prices::price_case;
+use case::book_case;
+use case::price_case;
+use case::read_case;
+use case::settle_case;
+use expansion::after;
+use writing::write_case;
 
-// One case, where it is known, and where the next one starts: no further on at the end of the cases.
+// One case, and where the next one starts. Any other letter is passed over.
 fn run_case(cases: &[u8], at: usize, letter: u8, text: &mut [u8]) -> usize {
     match letter {
         b'B' => book_case(cases, at, text),
@@ -29,12 +29,8 @@ fn run_case(cases: &[u8], at: usize, letter: u8, text: &mut [u8]) -> usize {
 fn run(cases: &[u8], text: &mut [u8]) {
     let mut at: usize = 0;
     while at < cases.len() {
-        if cases.len() - at < 2 {
-            return;
-        }
-        let start = at + 2;
-        let next = run_case(cases, start, cases[at], text);
-        if next <= start {
+        let next = run_case(cases, after(at, 2), cases[at], text);
+        if next <= at {
             return;
         }
         at = next;

@@ -1,13 +1,14 @@
 // What is written of an answer.
-use curve_set::CurveSet;
 use integer::magnitude;
 use libc::STDOUT_FILENO;
-use record::Group;
-use record::Record;
-use text::refusal::Refusal;
+use ordc::refusal::Refusal;
 
 pub(crate) fn show(bytes: &[u8]) {
     io::write_all(STDOUT_FILENO, bytes);
+}
+
+pub(crate) fn end_line() {
+    show(b"\n");
 }
 
 // A space and a number without sign.
@@ -17,7 +18,7 @@ pub(crate) fn show_count(n: u64) {
 }
 
 // A space and a number.
-pub(crate) fn show_number(z: i64) {
+fn show_number(z: i64) {
     if z < 0 {
         show(b" -");
         io::print_decimal(STDOUT_FILENO, magnitude(z));
@@ -31,37 +32,21 @@ pub(crate) fn show_refusal(refusal: Refusal) {
     show(b"refused");
     show_count(refusal.number);
     show(b" line");
-    show_count(refusal.line as u64);
+    show_count(refusal.line);
 }
 
-fn show_group(group: Group) {
-    show_count(group.count);
-    show_number(group.sum);
-    show_number(group.squares);
-}
-
-// Count, sum and squares of each group.
-pub(crate) fn show_record(history: Record) {
+// The line of an answer: its numbers, or its refusal. 0 is no refusal's number.
+pub(crate) fn show_answer(refusal: Refusal, values: &[i64]) {
+    if refusal.number != 0 {
+        show_refusal(refusal);
+        end_line();
+        return;
+    }
+    show(b"accepted");
     let mut i: usize = 0;
-    while i < 24 {
-        let group = history.groups[i];
-        show_group(group);
+    while i < values.len() {
+        show_number(values[i]);
         i += 1;
     }
-}
-
-fn show_two(first: i64, second: i64) {
-    show_number(first);
-    show_number(second);
-}
-
-// VOLL, X, and the mean and the spread of each group.
-pub(crate) fn show_set(curves: CurveSet) {
-    show_two(curves.voll, curves.floor);
-    let mut i: usize = 0;
-    while i < 24 {
-        let pair = curves.pairs[i];
-        show_two(pair.mean, pair.spread);
-        i += 1;
-    }
+    end_line();
 }

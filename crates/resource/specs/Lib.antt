@@ -1,3 +1,2 @@
--- Document 01, "Snapshot to reserves": one resource, its kind, its fields and their ranges.
-pub mod Resource
+-- Document 01, "Snapshot to reserves": the ranges of a resource's numbers.
 pub mod Range

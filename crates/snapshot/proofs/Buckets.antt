@@ -10,7 +10,7 @@ use lib.Dec.{eqb, ltb}
 use lib.ListN.{length, drop, getD, set, replicate, drop-of-length-le, length-set, length-replicate, getD-replicate}
 use lib.Seq.{drop-cons, getD-set-same, getD-set-other}
 use Rattle.text.specs.Choice.{pick}
-use Rattle.line.specs.Line.{part}
+use Rattle.piece.specs.Piece.{part}
 use Rattle.snapshot.specs.Snapshot.{sameBytes, standsIn}
 use Rattle.snapshot.specs.Ids.{bucketFrom, bucketOf, idOf, idsAbove, Latest, IdTable, Room}
 

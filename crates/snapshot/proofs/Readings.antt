@@ -11,22 +11,22 @@ use lib.ListN.{length, length-map}
 use Rattle.integer.proofs.Difference.{view, toℕ}
 use Rattle.text.specs.Choice.{pick}
 use Rattle.text.specs.Bytes.{bytes}
-use Rattle.line.specs.Line.{fault, endAt}
-use Rattle.line.specs.declared.End.{End}
-use Rattle.line.specs.declared.End.the-variants as end
+use Rattle.answers.specs.Answers.{fault, endAt}
+use Rattle.answers.specs.declared.End.{End}
+use Rattle.answers.specs.declared.End.the-variants as end
 use Rattle.number.specs.Number.{ranged}
 use Rattle.line.specs.Field.{Answer, got, refused}
 use Rattle.block.specs.Block.{readFields}
-use Rattle.block.specs.declared.Block.{Block}
-use Rattle.block.specs.declared.Block.the-variants as block
-use Rattle.adder.specs.Sums.{headerFields, headerFault}
+use Rattle.answers.specs.declared.Block.{Block}
+use Rattle.answers.specs.declared.Block.the-variants as block
+use Rattle.adder.specs.Sums.{headerFault}
+use Rattle.snapshot.specs.Snapshot.{headerFields, headerOf, Entry, newIdAt, withEntry, resourcesAt, read, turned-back, afterLast, afterResources, afterHeader, snapshotIn, resourcesOf}
 use Rattle.adder.specs.declared.sums.Header.{Header}
-use Rattle.resource.specs.Resource.{afterAnswer, resourceAt}
-use Rattle.snapshot.specs.Snapshot.{headerOf, Entry, newIdAt, withEntry, resourcesAt, read, turned-back, afterLast, afterResources, afterHeader, snapshotIn, resourcesOf}
+use Rattle.resource_text.specs.Resource.{afterAnswer, resourceAt}
 use Rattle.resource.specs.declared.Resource.{Resource}
 use Rattle.resource.specs.Range.{Between, ResourceInRange}
 use Rattle.sums.proofs.Parts.{between-within, AllInRange, none-in-range, one-in-range}
-use Rattle.resource.proofs.Readings.{number-at, followed, resource-read}
+use Rattle.resource_text.proofs.Readings.{number-at, followed, resource-read}
 
 -- ---- the header
 

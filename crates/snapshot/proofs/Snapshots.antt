@@ -1,35 +1,33 @@
 -- Laws on a snapshot's text: from the readers' answers to its header and its sums.
 use Prim.Native.Nat.{ℕ, _≤_, _<_}
 use mathlib.Core.Path.{_≡_, refl, sym, _∙_}
-use mathlib.Core.Bool.{true, false}
 use mathlib.Core.List.{List, [], _∷_, _++_}
 use borrow.Author.Tests.{lt-ltb, le-ltb}
 use lib.IntN.{ℤ, pos, negℤ, natAbs}
 use lib.ListN.{length, replicate}
 use Rattle.text.specs.Bytes.{bytes}
-use Rattle.text.specs.Piece.{piecesFrom}
+use Rattle.piece.specs.Piece.{piecesFrom}
 use Rattle.text.specs.Refusal.{refusalOf}
-use Rattle.line.specs.Line.{endAt}
+use Rattle.answers.specs.Answers.{endAt}
 use Rattle.text.specs.declared.refusal.Fault.{Fault}
 use Rattle.text.specs.declared.refusal.Refusal.{Refusal}
-use Rattle.line.specs.declared.End.{End}
-use Rattle.line.specs.declared.End.the-variants as end
+use Rattle.answers.specs.declared.End.{End}
+use Rattle.answers.specs.declared.End.the-variants as end
 use Rattle.line.specs.Field.{Answer, got, refused}
 use Rattle.block.specs.Block.{readFields, numberFields, BlockRead}
-use Rattle.block.specs.declared.Block.{Block}
-use Rattle.block.specs.declared.Block.the-variants as block
+use Rattle.answers.specs.declared.Block.{Block}
+use Rattle.answers.specs.declared.Block.the-variants as block
 use Rattle.block.specs.Block.{value}
-use Rattle.adder.specs.Sums.{headerFields}
+use Rattle.snapshot.specs.Snapshot.{headerFields, Entry, headerOf, resourcesAt, resourcesOf, summed, resourcesAnswer, afterLast, afterResources, afterHeader, snapshotIn, snapshotSums}
 use Rattle.adder.specs.declared.sums.Header.{Header}
 use Rattle.adder.specs.declared.sums.Sums.{Sums}
-use Rattle.resource.specs.Resource.{resourceAt}
+use Rattle.resource_text.specs.Resource.{resourceAt}
 use Rattle.sums.specs.Sums.{sumsOf}
-use Rattle.snapshot.specs.Snapshot.{Entry, headerOf, resourcesAt, resourcesOf, summed, resourcesAnswer, afterLast, afterResources, afterHeader, snapshotIn, snapshotSums}
 use Rattle.snapshot.specs.declared.resources.Resources.{Resources}
 use Rattle.snapshot.specs.declared.resources.Resources.the-variants as resources
 use Rattle.snapshot.specs.declared.Snapshot.{Snapshot}
 use Rattle.snapshot.specs.declared.Snapshot.the-variants as snapshot
-use Rattle.resource.proofs.Lines.{Schema, block-ended, block-filled}
+use Rattle.resource_text.proofs.Lines.{Schema, block-ended, block-filled}
 use Rattle.snapshot.proofs.Readings.{header-read, few}
 
 -- the header as the code hands its schema over

@@ -7,14 +7,15 @@ use mathlib.Core.List.{List, [], _∷_}
 use lib.IntN.{ℤ, pos, _+ℤ_, +ℤ-assoc}
 use lib.ListN.{length}
 use Rattle.integer.proofs.Difference.{view, toℕ}
-use Rattle.line.specs.Line.{part, faultOf}
+use Rattle.piece.specs.Piece.{part}
 use Rattle.text.specs.declared.refusal.Fault.{Fault}
-use Rattle.line.specs.declared.Line.{Line}
-use Rattle.line.specs.declared.Line.the-variants as line
+use Rattle.answers.specs.declared.Line.{Line}
+use Rattle.answers.specs.declared.Line.the-variants as line
 use Rattle.line.specs.Field.{Answer, got, refused}
+use Rattle.id.specs.Id.{idAnswer}
 use Rattle.adder.specs.Sums.{noSums, plus}
 use Rattle.adder.specs.declared.sums.Sums.{Sums}
-use Rattle.resource.specs.Resource.{afterAnswer, resourceAt}
+use Rattle.resource_text.specs.Resource.{afterAnswer, resourceAt}
 use Rattle.sums.specs.Range.{SumsWithin}
 use Rattle.sums.specs.Sums.{partOf, sumsOf}
 use Rattle.snapshot.specs.Snapshot.{Entry, newIdAt, withEntry, resourcesAt, summed, resourcesAnswer}
@@ -22,8 +23,8 @@ use Rattle.snapshot.specs.Ids.{idsAbove, IdTable, IdKept, Room}
 use Rattle.resource.specs.declared.Resource.{Resource}
 use Rattle.snapshot.specs.declared.resources.Resources.{Resources}
 use Rattle.snapshot.specs.declared.resources.Resources.the-variants as resources
-use Rattle.sums.proofs.Parts.{part-within, plus-within, none-within}
-use Rattle.resource.proofs.Readings.{resource-read, followed}
+use Rattle.sums.proofs.Parts.{part-within, plus-within, none-within, within-more}
+use Rattle.resource_text.proofs.Readings.{resource-read, followed}
 
 -- ---- sums add up
 
@@ -104,6 +105,16 @@ module _
   summing-over h = let z : count - n ≡ 0 = omega arith in rw (so-far .rest, z, plus-none)
 
   module _ (more : n < count) where
+    -- there is room for one more id
+    pub summing-room : Room (n + 1) links starts ends
+    summing-room =
+        let room = so-far .room in
+        record { few = omega arith; links-room = omega arith; starts-room = omega arith; ends-room = omega arith }
+
+    -- and for what it adds
+    pub summing-within : SumsWithin 4095 sums
+    summing-within = let few = so-far .room .few in within-more (omega arith) (so-far .within)
+
     one-due :
         summed (resourcesAt resourceAt count [] text at) ≡
         added sums (summed (afterAnswer (newIdAt (idsAbove text starts ends n) text next)
@@ -114,10 +125,6 @@ module _
     one-due = let e : count - n ≡ suc (count - (n + 1)) = omega arith in rw (so-far .rest, e)
 
     module _ {heads′ links′ starts′ ends′ : List ℕ} {found : Line} (kept : IdKept text next n starts ends heads′ links′ starts′ ends′ found) where
-      -- the id's line is refused, or the id stands above
-      pub summing-id : {fault told : Fault} → found ≡ line.Refused told → fault ≡ faultOf found → refused fault ≡ summed (resourcesAt resourceAt count [] text at)
-      summing-id is says = rw (one-due, ← kept .answers, says, is)
-
       module _
           {start end after : ℕ} (id-told : found ≡ line.Value start end after) (answer : Resources)
           (read : resourcesAnswer answer ≡ afterAnswer (resourceAt text after) (λ one last. got (plus sums (partOf one)) last)) where
@@ -128,8 +135,7 @@ module _
             (λ others end′. got (withEntry (part text start end) one others) end′))))
         resource-due = rw (one-due, ← kept .answers, id-told)
 
-        -- a line of the resource is refused
-        pub summing-refused : {told : Fault} → answer ≡ resources.Refused told → resourcesAnswer answer ≡ summed (resourcesAt resourceAt count [] text at)
+        summing-refused : {told : Fault} → answer ≡ resources.Refused told → resourcesAnswer answer ≡ summed (resourcesAt resourceAt count [] text at)
         summing-refused {told} is = go (resourceAt text after) refl (sym read ∙ ap resourcesAnswer is)
           where
             go :
@@ -164,8 +170,7 @@ module _
                   ∙ added-twice sums (partOf one) (summed (resourcesAt resourceAt (count - (n + 1)) (part text start end ∷ idsAbove text starts ends n) text last)));
             }
 
-        -- one more resource is read
-        pub summing-more :
+        summing-more :
             {sums′ : Sums} {last : ℕ} → answer ≡ resources.Read sums′ last → length links′ ≡ length links → length starts′ ≡ length starts →
             length ends′ ≡ length ends → Summing text at count links₀ starts₀ ends₀ heads′ links′ starts′ ends′ sums′ last (n + 1)
         summing-more {sums′} {last} is l b e =
@@ -173,3 +178,40 @@ module _
             let one : resourceAt text after ≡ got (f .one) last = cc (f .given, f .then) in
             let s : sums′ ≡ plus sums (partOf (f .one)) = cc (f .then) in
             summing-read one s l b e
+
+    module _
+        {heads′ links′ starts′ ends′ : List ℕ} {answer : Resources} (found : Line)
+        (read :
+        resourcesAnswer answer ≡
+        afterAnswer (idAnswer text found) (λ of after. afterAnswer (resourceAt text after) (λ one last. got (plus sums (partOf one)) last))) where
+      -- a line is refused, or the id stands above
+      pub summing-stop :
+          IdKept text next n starts ends heads′ links′ starts′ ends′ found → {told : Fault} → answer ≡ resources.Refused told →
+          resourcesAnswer answer ≡ summed (resourcesAt resourceAt count [] text at)
+      summing-stop kept is = stop found kept read
+        where
+          stop :
+              (found : Line) → IdKept text next n starts ends heads′ links′ starts′ ends′ found →
+              resourcesAnswer answer ≡
+              afterAnswer (idAnswer text found) (λ of after. afterAnswer (resourceAt text after) (λ one last. got (plus sums (partOf one)) last)) →
+              resourcesAnswer answer ≡ summed (resourcesAt resourceAt count [] text at)
+          stop (line.Refused fault) kept read = rw (read, one-due, ← kept .answers)
+          stop (line.Value start end after) kept read = summing-refused kept refl answer read is
+
+      -- one more resource is read
+      pub summing-next :
+          IdKept text next n starts ends heads′ links′ starts′ ends′ found → {sums′ : Sums} {last : ℕ} → answer ≡ resources.Read sums′ last →
+          length links′ ≡ length links → length starts′ ≡ length starts → length ends′ ≡ length ends →
+          Summing text at count links₀ starts₀ ends₀ heads′ links′ starts′ ends′ sums′ last (n + 1)
+      summing-next kept {sums′} {last} is l b e = go found kept read
+        where
+          go :
+              (found : Line) → IdKept text next n starts ends heads′ links′ starts′ ends′ found →
+              resourcesAnswer answer ≡
+              afterAnswer (idAnswer text found) (λ of after. afterAnswer (resourceAt text after) (λ one last. got (plus sums (partOf one)) last)) →
+              Summing text at count links₀ starts₀ ends₀ heads′ links′ starts′ ends′ sums′ last (n + 1)
+          go (line.Refused fault) kept read =
+              let p : got sums′ last ≡ refused fault = sym (ap resourcesAnswer is) ∙ read in
+              let z : _≡_ {A = ℕ} 0 1 = cc in
+              absurd (omega arith)
+          go (line.Value start end after) kept read = summing-more kept refl answer read is l b e

@@ -6,11 +6,12 @@ use mathlib.Core.Bool.{true, false}
 use mathlib.Core.List.{List}
 use lib.ListN.{length, getD, set}
 use Rattle.text.specs.Bytes.{bytes}
-use Rattle.line.specs.Line.{part, fault}
+use Rattle.piece.specs.Piece.{part}
 use Rattle.text.specs.declared.refusal.Fault.{Fault}
-use Rattle.line.specs.declared.Line.{Line}
-use Rattle.line.specs.declared.Line.the-variants as line
+use Rattle.answers.specs.declared.Line.{Line}
+use Rattle.answers.specs.declared.Line.the-variants as line
 use Rattle.line.specs.Field.{fieldAt}
+use Rattle.answers.specs.Answers.{fault}
 use Rattle.id.specs.Id.{idField, idAnswer}
 use Rattle.snapshot.specs.Snapshot.{standsIn}
 use Rattle.snapshot.specs.Ids.{bucketOf, idsAbove, IdTable, IdKept}

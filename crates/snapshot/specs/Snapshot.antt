@@ -3,32 +3,46 @@ use Prim.Native.Nat.{ℕ, zero, suc}
 use mathlib.Core.Bool.{Bool, true, false, _||_}
 use mathlib.Core.List.{List, [], _∷_, map}
 use lib.Dec.{ltb, eqb}
-use lib.IntN.{ℤ, natAbs}
+use lib.IntN.{ℤ, pos, negℤ, natAbs}
 use lib.ListN.{length}
 use Rattle.text.specs.Choice.{pick}
 use Rattle.text.specs.Bytes.{bytes}
 use Rattle.text.specs.Refusal.{refusalOf}
-use Rattle.line.specs.Line.{endAt, fault}
-use Rattle.line.specs.Field.{Answer, got, refused, fieldAt}
+use Rattle.answers.specs.Answers.{endAt, fault}
+use Rattle.line.specs.Field.{Field, Answer, got, refused, fieldAt}
+use Rattle.number.specs.Field.{numberField}
 use Rattle.block.specs.Block.{readFields}
 use Rattle.id.specs.Id.{idField}
 use Rattle.text.specs.declared.refusal.Fault.{Fault}
 use Rattle.text.specs.declared.refusal.Refusal.{Refusal}
-use Rattle.line.specs.declared.End.{End}
-use Rattle.line.specs.declared.End.the-variants as end
-use Rattle.block.specs.declared.Block.{Block}
-use Rattle.block.specs.declared.Block.the-variants as block
+use Rattle.answers.specs.declared.End.{End}
+use Rattle.answers.specs.declared.End.the-variants as end
+use Rattle.answers.specs.declared.Block.{Block}
+use Rattle.answers.specs.declared.Block.the-variants as block
 use Rattle.block.specs.Block.{value}
-use Rattle.adder.specs.Sums.{headerFields}
 use Rattle.adder.specs.declared.sums.Header.{Header}
 use Rattle.adder.specs.declared.sums.Sums.{Sums}
-use Rattle.resource.specs.Resource.{afterAnswer, resourceAt}
+use Rattle.resource_text.specs.Resource.{afterAnswer, resourceAt}
 use Rattle.sums.specs.Sums.{sumsOf}
 use Rattle.resource.specs.declared.Resource.{Resource}
 use Rattle.snapshot.specs.declared.resources.Resources.{Resources}
 use Rattle.snapshot.specs.declared.resources.Resources.the-variants as resources
 use Rattle.snapshot.specs.declared.Snapshot.{Snapshot}
 use Rattle.snapshot.specs.declared.Snapshot.the-variants as snapshot
+
+-- ---- the header
+
+unfoldable pub headerFields : List (Field ℤ)
+headerFields =
+    numberField (bytes "month=") (pos 1) (pos 12)
+    ∷ numberField (bytes "hour=") (pos 0) (pos 23)
+    ∷ numberField (bytes "lambda=") (negℤ (pos 2000000)) (pos 2000000)
+    ∷ numberField (bytes "factor=") (pos 0) (pos 10000)
+    ∷ numberField (bytes "prc=") (pos 0) (pos 200000000)
+    ∷ numberField (bytes "eea1=") (pos 0) (pos 200000000)
+    ∷ numberField (bytes "short=") (pos 0) (pos 200000000)
+    ∷ numberField (bytes "count=") (pos 0) (pos 4096)
+    ∷ []
 
 abbrev pub headerOf : List ℤ → Header
 headerOf v =

@@ -4,10 +4,9 @@ ghost use Prim.Native.Nat.{ℕ};
 ghost use lib.IntN.{pos};
 ghost use lib.ListN.{replicate};
 ghost use Rattle.block.specs.Block.{readFields};
-ghost use Rattle.adder.specs.Sums.{headerFields};
-ghost use Rattle.snapshot.specs.Snapshot.{headerOf};
+ghost use Rattle.snapshot.specs.Snapshot.{headerFields, headerOf};
 use adder::sums::Header;
-use block::Block;
+use answers::Block;
 use block::read_block;
 
 // The header by its values.

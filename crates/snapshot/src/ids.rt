@@ -3,9 +3,9 @@ ghost use mathlib.Core.Path.{_≡_};
 ghost use Rattle.snapshot.specs.Snapshot.{sameBytes, standsIn};
 ghost use Prim.Native.Nat.{_+_};
 ghost use Rattle.snapshot.specs.Ids.{bucketOf, idsAbove, IdTable, Room, IdKept};
+use answers::Line;
 use id::id_at;
-use line::Line;
-use line::part;
+use piece::part;
 use text::refusal::Fault;
 
 // The bucket of an id, below 4096.

@@ -7,7 +7,7 @@ ghost use mathlib.Core.Path.{_≡_};
 ghost use mathlib.Core.List.{[]};
 ghost use Prim.Native.Nat.{_≤_};
 ghost use lib.IntN.{natAbs};
-ghost use Rattle.resource.specs.Resource.{resourceAt};
+ghost use Rattle.resource_text.specs.Resource.{resourceAt};
 ghost use Rattle.snapshot.specs.Snapshot.{resourcesAt, summed, resourcesAnswer, afterResources, snapshotIn, snapshotSums};
 use crate::header::header_at;
 use crate::header::header_of;
@@ -15,10 +15,10 @@ use crate::resources::Resources;
 use crate::resources::resources_at;
 use adder::sums::Header;
 use adder::sums::Sums;
-use block::Block;
+use answers::Block;
+use answers::End;
+use answers::end_at;
 use integer::magnitude;
-use line::End;
-use line::end_at;
 use text::refusal::Refusal;
 use text::refusal::refusal_of;
 
@@ -48,11 +48,14 @@ fn few_resources(text: &[u8], at: usize, count: usize) -> Resources
     )
 }
 
-// The resources where they may be many.
-fn many_resources(text: &[u8], at: usize, count: usize) -> Resources
+// The resources, whether few or many.
+fn resources_in(text: &[u8], at: usize, count: usize) -> Resources
     requires { ⌜ count ≤ 4096 ⌝ }
     ensures { λ r. ⌜ resourcesAnswer r ≡ summed (resourcesAt resourceAt count [] (now (text .entry)) at) ⌝ }
 {
+    if count <= 64 {
+        return few_resources(text, at, count);
+    }
     let mut heads = [0u16; 4096];
     let mut links = [0u16; 4096];
     let mut starts = [0usize; 4096];
@@ -68,16 +71,6 @@ fn many_resources(text: &[u8], at: usize, count: usize) -> Resources
     )
 }
 
-fn counted_resources(text: &[u8], at: usize, count: usize) -> Resources
-    requires { ⌜ count ≤ 4096 ⌝ }
-    ensures { λ r. ⌜ resourcesAnswer r ≡ summed (resourcesAt resourceAt count [] (now (text .entry)) at) ⌝ }
-{
-    if count <= 64 {
-        return few_resources(text, at, count);
-    }
-    many_resources(text, at, count)
-}
-
 // What follows a header that ends at a position.
 fn after_header(text: &[u8], header: Header, at: usize) -> Snapshot
     requires { ⌜ natAbs (header .count) ≤ 4096 ⌝ }
@@ -85,7 +78,7 @@ fn after_header(text: &[u8], header: Header, at: usize) -> Snapshot
         ⌜ r ≡ snapshotSums (afterResources (now (text .entry)) header (resourcesAt resourceAt (natAbs (header .count)) [] (now (text .entry)) at)) ⌝ }
 {
     let count = magnitude(header.count) as usize;
-    let r = counted_resources(text, at, count);
+    let r = resources_in(text, at, count);
     match r {
         Resources::Refused(fault) => return Snapshot::Refused(refusal_of(text, fault)),
         Resources::Read { sums, next } => {

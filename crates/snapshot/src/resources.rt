@@ -2,18 +2,19 @@
 ghost use mathlib.Core.Path.{_≡_};
 ghost use mathlib.Core.List.{[]};
 ghost use Rattle.adder.specs.Sums.{plus};
+ghost use Rattle.id.specs.Id.{idAnswer};
 ghost use Rattle.line.specs.Field.{got};
 ghost use Rattle.sums.specs.Range.{SumsWithin};
 ghost use Rattle.sums.specs.Sums.{partOf};
-ghost use Rattle.resource.specs.Resource.{afterAnswer, resourceAt};
+ghost use Rattle.resource_text.specs.Resource.{afterAnswer, resourceAt};
 ghost use Rattle.snapshot.specs.Snapshot.{resourcesAt, summed, resourcesAnswer};
 ghost use Rattle.snapshot.specs.Ids.{IdTable, Room};
 use crate::ids::new_id;
 use adder::sums::Sums;
-use line::Line;
-use line::fault_of;
-use resource::ResourceLines;
-use resource::resource_at;
+use answers::Line;
+use answers::line_fault;
+use resource_text::ResourceLines;
+use resource_text::resource_at;
 use sums::part_of;
 use text::refusal::Fault;
 
@@ -37,13 +38,21 @@ fn plus(sums: Sums, part: Sums) -> Sums
     }
 }
 
-// The resource due at a position, its part added to the sums.
-fn with_resource(text: &[u8], at: usize, sums: Sums) -> Resources
+// The resource whose id's line was read, its part added to the sums; or the refused line.
+fn with_resource(text: &[u8], id: Line, sums: Sums) -> Resources
     requires { ⌜ SumsWithin 4095 sums ⌝ }
     ensures { λ r.
-        ⌜ resourcesAnswer r ≡ afterAnswer (resourceAt (now (text .entry)) at) (λ one next. got (plus sums (partOf one)) next) ⌝ }
+        ⌜ resourcesAnswer r ≡ afterAnswer (idAnswer (now (text .entry)) id) (λ of after. afterAnswer (resourceAt (now (text .entry)) after) (λ one next. got (plus sums (partOf one)) next)) ⌝ }
 {
-    let r = resource_at(text, at);
+    let Line::Value {
+        start: _,
+        end: _,
+        next: after,
+    } = id
+    else {
+        return Resources::Refused(line_fault(id));
+    };
+    let r = resource_at(text, after);
     match r {
         ResourceLines::Refused(fault) => return Resources::Refused(fault),
         ResourceLines::Read { resource, next } => {
@@ -78,16 +87,8 @@ pub(crate) fn resources_at(
     let mut next = at;
     let mut n: usize = 0;
     while n < count {
-        let l = new_id(text, next, heads, links, starts, ends, n);
-        let Line::Value {
-            start: _,
-            end: _,
-            next: after,
-        } = l
-        else {
-            return Resources::Refused(fault_of(l));
-        };
-        let r = with_resource(text, after, sums);
+        let id = new_id(text, next, heads, links, starts, ends, n);
+        let r = with_resource(text, id, sums);
         let Resources::Read {
             sums: more,
             next: last,

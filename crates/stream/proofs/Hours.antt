@@ -1,6 +1,6 @@
 -- Hours taken byte by byte are booked as the hours of the whole input are.
 use Prim.Native.Nat.{ℕ, _≤_, _<_}
-use mathlib.Core.Path.{_≡_, refl, ap, sym, _∙_}
+use mathlib.Core.Path.{_≡_, refl, sym}
 use mathlib.Core.Bool.{Bool, true, false}
 use mathlib.Core.List.{List, [], _∷_, _++_}
 use native.Mathlib.Omega.{arith}
@@ -12,13 +12,13 @@ use Rattle.text.specs.Choice.{pick}
 use Rattle.text.specs.Bytes.{bytes}
 use Rattle.text.specs.declared.refusal.Refusal.{Refusal}
 use Rattle.hour.specs.Hour.{refused, hourIn}
-use Rattle.record.specs.Record.{allPossible}
+use Rattle.settling.specs.Possible.{allPossible}
 use Rattle.history.specs.Booking.{kept, bookHour, booked}
 use Rattle.curve_set.specs.declared.answer.Answer.{Answer}
 use Rattle.curve_set.specs.declared.answer.Answer.the-variants as answer
 use Rattle.record.specs.declared.Record.{Record}
 use Rattle.writer.specs.Output.{refusalLines}
-use Rattle.stream.specs.Program.{endsHour, lastHour, hoursFrom, hoursBooked}
+use Rattle.stream.specs.Program.{endsHour, hoursFrom, hoursBooked}
 use Rattle.stream.specs.Stream.{State, hourTaken, hourTooLong, fed, fedAll, finished}
 use Rattle.stream.specs.declared.Stage.the-variants as stage
 use Rattle.stream.proofs.Taking.{hour-refused}

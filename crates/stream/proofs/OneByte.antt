@@ -1,17 +1,14 @@
 -- What one byte does to the stream and to the lent buffer, case by case.
-use Prim.Native.Nat.{ℕ, suc, _+_, _≤_, _<_}
-use mathlib.Core.Path.{_≡_, refl, sym, ap, _∙_}
-use mathlib.Core.Bool.{Bool, true, false}
+use Prim.Native.Nat.{ℕ, _+_, _<_}
+use mathlib.Core.Path.{_≡_, refl, sym, _∙_}
+use mathlib.Core.Bool.{true, false}
 use mathlib.Core.List.{List, [], _∷_, _++_}
-use native.Mathlib.Nat.{le-refl}
 use native.Mathlib.Numerals.{add-one}
 use native.Mathlib.Omega.{arith}
 use borrow.Author.Tests.{eq-eqb, ne-eqb, le-leb, lt-leb}
-use lib.Dec.{eqb, leb}
 use lib.IntN.{ℤ}
 use lib.ListN.{length, take, set, length-append}
 use lib.Seq.{length-take-le, set-out, take-suc-set}
-use Rattle.text.specs.Choice.{pick}
 use Rattle.line.specs.Field.{Field, Answer, got, refused, fieldAt}
 use Rattle.history.specs.Booking.{booked}
 use Rattle.curve_set.specs.declared.answer.Answer as declared-answer

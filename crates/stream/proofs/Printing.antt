@@ -1,19 +1,16 @@
 -- A text that fits its buffer is printed whole.
-use Prim.Native.Nat.{ℕ, _+_, _≤_, _<_, _^_}
-use mathlib.Core.Path.{_≡_, refl, sym, ap, _∙_}
+use Prim.Native.Nat.{ℕ, _≤_, _<_, _^_}
+use mathlib.Core.Path.{_≡_, refl, sym, _∙_}
 use mathlib.Core.Bool.{Bool, true, false}
-use mathlib.Core.List.{List, [], _∷_, _++_, map}
+use mathlib.Core.List.{List, [], _∷_, map}
 use native.Mathlib.Nat.{zero-add}
 use native.Mathlib.Omega.{arith}
 use borrow.Author.Tests.{le-leb}
-use lib.Dec.{leb}
 use lib.IntN.{ℤ}
 use lib.ListN.{length, length-map}
 use Rattle.text.specs.Choice.{pick}
 use Rattle.text.specs.declared.refusal.Refusal.{Refusal}
-use Rattle.number.specs.Number.{digitsOf}
-use Rattle.block.specs.Block.{laidOver}
-use Rattle.writer.specs.Write.{laidAt, TextWritten}
+use Rattle.writer.specs.Write.{TextWritten}
 use Rattle.writer.specs.Output.{refusalLines}
 use Rattle.writer.specs.declared.Written.{Written}
 use Rattle.writer.specs.declared.Written.the-variants as written
@@ -26,10 +23,10 @@ use Rattle.curve_set.specs.declared.answer.Answer.the-variants as answer
 use Rattle.curve.specs.declared.WrittenCurves.{WrittenCurves}
 use Rattle.curve.specs.declared.WrittenCurves.the-variants as written-curves
 use Rattle.curve.proofs.CurveRoundTrip.{curve-text-is-short}
-use Rattle.record.specs.Record.{allPossible}
-use Rattle.record.specs.Settle.{pairOf, settledGroups, settledSet, settled}
+use Rattle.settling.specs.Possible.{allPossible}
+use Rattle.settling.specs.Settle.{pairOf, settledGroups, settledSet, settled}
 use Rattle.record.specs.declared.Record.{Record}
-use Rattle.record.proofs.Range.{settled-in-range}
+use Rattle.settling.proofs.Range.{settled-in-range}
 use Rattle.stream.specs.Program.{lastHour, settledText}
 use Rattle.stream.specs.Stream.{Printed}
 

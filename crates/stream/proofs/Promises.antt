@@ -1,7 +1,7 @@
 -- The stream fed byte by byte prints what the program prints on the whole input.
 use Prim.Native.Nat.{ℕ}
 use mathlib.Core.Path.{_≡_, refl, _∙_}
-use mathlib.Core.List.{List, [], _∷_}
+use mathlib.Core.List.{List, []}
 use native.Mathlib.Omega.{arith}
 use lib.IntN.{ℤ, pos}
 use lib.ListN.{drop}
@@ -9,7 +9,7 @@ use Rattle.line.specs.Field.{Answer, got, refused}
 use Rattle.line.specs.Line.{lineLength}
 use Rattle.record.specs.Record.{fresh}
 use Rattle.stream.specs.Program.{vollField, floorField, settleLine, afterVoll, afterFloor, curvesOutput}
-use Rattle.stream.specs.Stream.{State, start, vollTaken, floorTaken, fed, fedAll, finished}
+use Rattle.stream.specs.Stream.{State, vollTaken, floorTaken, fed, fedAll, finished}
 use Rattle.stream.specs.Promises.{StreamIsTheProgram}
 use Rattle.stream.specs.declared.Stage.the-variants as stage
 use Rattle.stream.proofs.SettleLine.{after, line-taken}

@@ -1,20 +1,22 @@
 -- A `voll` or `floor` line taken byte by byte is judged as the line of the whole input is.
-use Prim.Native.Nat.{ℕ, suc, _+_, _-_, _≤_, _<_}
-use mathlib.Core.Path.{_≡_, refl, ap, sym, _∙_}
+use Prim.Native.Nat.{ℕ, suc, _+_, _-_, _≤_}
+use mathlib.Core.Path.{_≡_, refl, ap}
 use mathlib.Core.Bool.{Bool, true, false}
 use mathlib.Core.List.{List, [], _∷_, _++_, append-nil}
 use native.Mathlib.Nat.{suc-inj, zero-add, le-refl}
 use native.Mathlib.Omega.{arith}
-use borrow.Author.Tests.{eqb-true, leb-true, leb-false, lt-ltb, le-ltb, le-leb, lt-leb}
-use lib.Dec.{eqb, leb, ltb}
+use borrow.Author.Tests.{eqb-true, leb-true, leb-false, lt-ltb, le-ltb}
+use lib.Dec.{eqb, leb}
 use lib.IntN.{ℤ}
 use lib.ListN.{length, take, drop, length-append, length-drop}
 use lib.Seq.{take-all, take-at, append-snoc, take-append-seam, take-append-add, take-append-le, drop-append-le, drop-append-add}
 use Rattle.text.specs.Choice.{pick}
-use Rattle.line.specs.Line.{lineLength, begins, part, fault, lineIn}
+use Rattle.line.specs.Line.{lineLength, begins, lineIn}
+use Rattle.piece.specs.Piece.{part}
 use Rattle.line.specs.Field.{Field, Judged, good, bad, Answer, got, refused, judged, valueIn, fieldAt}
-use Rattle.line.specs.declared.Line.the-variants as found
+use Rattle.answers.specs.declared.Line.the-variants as found
 use Rattle.text.specs.declared.refusal.Fault.{Fault}
+use Rattle.answers.specs.Answers.{fault}
 use Rattle.stream.specs.Program.{settleRefused}
 use Rattle.stream.specs.Stream.{State, refusedSettle, fed, fedAll, finished}
 use Rattle.stream.proofs.Taking.{settle-refused}

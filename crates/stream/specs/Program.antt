@@ -1,26 +1,22 @@
 -- Document 01, "Programs": `curves` reads a `voll` line, a `floor` line, then hours, each followed by an empty line that is no part of it; it prints the curve
 -- text. The first refusal ends the program, and nothing else is printed.
-use Prim.Native.Nat.{ℕ, zero, suc, _+_}
-use mathlib.Core.Bool.{Bool, true, false, _&&_}
+use Prim.Native.Nat.{ℕ, _+_}
+use mathlib.Core.Bool.{Bool, true, _&&_}
 use mathlib.Core.List.{List, [], _∷_, _++_}
 use lib.Dec.{eqb}
 use lib.IntN.{ℤ, pos}
-use lib.ListN.{length, take, drop}
+use lib.ListN.{take, drop}
 use Rattle.text.specs.Choice.{pick}
 use Rattle.text.specs.Bytes.{bytes}
 use Rattle.line.specs.Field.{Field, Answer, got, refused, fieldAt}
 use Rattle.number.specs.Field.{numberField}
-use Rattle.text.specs.declared.refusal.Fault.{Fault}
-use Rattle.text.specs.declared.refusal.Refusal.{Refusal}
 use Rattle.record.specs.Record.{fresh}
 use Rattle.history.specs.Booking.{booked}
-use Rattle.record.specs.Settle.{settled}
+use Rattle.settling.specs.Settle.{settled}
 use Rattle.curve.specs.CurveText.{curveText}
 use Rattle.curve_set.specs.declared.answer.Answer as declared-answer
 use Rattle.curve_set.specs.declared.answer.Answer.the-variants as answer
 use Rattle.record.specs.declared.Record.{Record}
-use Rattle.history.specs.declared.Booking.{Booking}
-use Rattle.curve_set.specs.declared.Curves.{Curves}
 use Rattle.curve_set.specs.declared.CurveSet.{CurveSet}
 use Rattle.writer.specs.Output.{refusalLines}
 

@@ -1,7 +1,7 @@
 -- The answer does not depend on how the stream is cut into reads, and is what the program prints on the whole input.
 use Prim.Native.Nat.{ℕ}
 use mathlib.Core.Path.{_≡_}
-use mathlib.Core.List.{List, [], _∷_, _++_}
+use mathlib.Core.List.{List, _++_}
 use Rattle.stream.specs.Program.{curvesOutput}
 use Rattle.stream.specs.Stream.{State, start, fedAll, finished}
 

@@ -1,6 +1,6 @@
 -- The input taken byte by byte: what a byte does to the stream and to the bytes it holds.
 use Prim.Native.Nat.{ℕ, _≤_}
-use mathlib.Core.Bool.{Bool, true, false, not, _&&_}
+use mathlib.Core.Bool.{Bool, true, false, not}
 use mathlib.Core.Path.{_≡_}
 use mathlib.Core.List.{List, [], _∷_, _++_}
 use lib.Dec.{eqb, leb}
@@ -11,12 +11,12 @@ use Rattle.text.specs.Bytes.{bytes}
 use Rattle.line.specs.Field.{Field, Answer, got, refused, fieldAt}
 use Rattle.block.specs.Block.{laidOver}
 use Rattle.text.specs.declared.refusal.Refusal.{Refusal}
-use Rattle.record.specs.Record.{fresh, allPossible}
+use Rattle.record.specs.Record.{fresh}
+use Rattle.settling.specs.Possible.{allPossible}
 use Rattle.history.specs.Booking.{booked}
 use Rattle.curve_set.specs.declared.answer.Answer as declared-answer
 use Rattle.curve_set.specs.declared.answer.Answer.the-variants as answer
 use Rattle.record.specs.declared.Record.{Record}
-use Rattle.history.specs.declared.Booking.{Booking}
 use Rattle.writer.specs.Output.{refusalLines}
 use Rattle.stream.specs.Program.{vollField, floorField, endsHour, lastHour, settleRefused, hoursBooked}
 use Rattle.stream.specs.declared.Stage.{Stage}

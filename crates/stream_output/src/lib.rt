@@ -1,26 +1,33 @@
 // The end of the input: what the program prints.
 ghost use mathlib.Core.Path.{_≡_};
-ghost use mathlib.Core.List.{[]};
 ghost use Prim.Native.Nat.{_≤_};
 ghost use lib.ListN.{length};
 ghost use Rattle.writer.specs.Output.{refusalLines};
 ghost use Rattle.stream.specs.Program.{lastHour, settledText, hoursBooked};
-ghost use Rattle.stream.specs.Stream.{stateOf, atStage, finished, Printed};
+ghost use Rattle.stream.specs.Stream.{State, stateOf, finished, Printed};
+ghost use Rattle.text.specs.Bytes.{bytes};
+ghost use Rattle.text.specs.Choice.{pick};
 use curve::WrittenCurves;
 use curve::write_curves;
 use curve_set::answer::Answer;
 use history::book;
-use line::part;
+use piece::part;
 use record::Record;
-use record::settle::settle;
+use settling::settle;
 use stream::Stage;
 use stream::Stream;
 use text::refusal::Refusal;
 use writer::Written;
 use writer::output::write_refusal;
 
-// A refusal, with the name of the refused text.
-fn print_refusal(found: Refusal, name: &[u8], out: &mut [u8]) -> usize
+// What ended the stream, and whether the refused text is `hour` or `settle`.
+struct Ending {
+    found: Refusal,
+    hour: bool,
+}
+
+// The lines of a refusal, with the name of the refused text.
+fn print_lines(found: Refusal, name: &[u8], out: &mut [u8]) -> usize
     requires { ⌜ length (now out) ≡ 768 ⌝ }
     requires { ⌜ length (now name) ≤ 6 ⌝ }
     ensures { λ r. ⌜ Printed (refusalLines found (now (name .entry))) (now (out .entry)) (now (out .exit)) r ⌝ }
@@ -32,6 +39,17 @@ fn print_refusal(found: Refusal, name: &[u8], out: &mut [u8]) -> usize
     next
 }
 
+// A refusal of an hour, or of the settings.
+fn print_refusal(found: Refusal, hour: bool, out: &mut [u8]) -> usize
+    requires { ⌜ length (now out) ≡ 768 ⌝ }
+    ensures { λ r. ⌜ Printed (refusalLines found (pick hour (bytes "hour") (bytes "settle"))) (now (out .entry)) (now (out .exit)) r ⌝ }
+{
+    if hour {
+        return print_lines(found, b"hour", out);
+    }
+    print_lines(found, b"settle", out)
+}
+
 // The curve text of a record, or the refusal of settling it.
 fn print_curves(history: Record, voll: i64, floor: i64, out: &mut [u8]) -> usize
     requires { ⌜ length (now out) ≡ 768 ⌝ }
@@ -40,13 +58,13 @@ fn print_curves(history: Record, voll: i64, floor: i64, out: &mut [u8]) -> usize
     let curves = settle(history, voll, floor);
     let answer = curves.answer;
     match answer {
-        Answer::Refused(found) => print_refusal(found, b"settle", out),
+        Answer::Refused(found) => return print_refusal(found, false, out),
         Answer::Accepted => {
             let w = write_curves(curves.set, out);
             let WrittenCurves::Length(next) = w else {
                 return 0;
             };
-            next
+            return next;
         }
     }
 }
@@ -56,29 +74,37 @@ fn print_hours(stream: Stream, hour: &[u8], out: &mut [u8]) -> usize
     requires { ⌜ length (now out) ≡ 768 ⌝ }
     ensures { λ r. ⌜ Printed (hoursBooked (stream .voll) (stream .floor) (stream .history) (lastHour (now (hour .entry)))) (now (out .entry)) (now (out .exit)) r ⌝ }
 {
-    if hour.len() == 0 {
-        return print_curves(stream.history, stream.voll, stream.floor, out);
+    let mut history = stream.history;
+    if hour.len() != 0 {
+        let booking = book(history, hour);
+        let answer = booking.answer;
+        match answer {
+            Answer::Refused(found) => return print_refusal(found, true, out),
+            Answer::Accepted => history = booking.history,
+        }
     }
-    let booking = book(stream.history, hour);
-    let answer = booking.answer;
-    match answer {
-        Answer::Refused(found) => print_refusal(found, b"hour", out),
-        Answer::Accepted => print_curves(booking.history, stream.voll, stream.floor, out),
-    }
+    print_curves(history, stream.voll, stream.floor, out)
 }
 
-// What is printed at each stage.
-fn print_end(stream: Stream, held: &[u8], out: &mut [u8]) -> usize
-    requires { ⌜ length (now out) ≡ 768 ⌝ }
-    ensures { λ r. ⌜ Printed (finished (atStage (stateOf stream []) (stream .stage) (now (held .entry)))) (now (out .entry)) (now (out .exit)) r ⌝ }
+// What is refused at a stage other than `Hours`: a line that is missing, or what was refused before.
+fn ended_by(stage: Stage) -> Ending
+    ensures { λ r. ⌜ ((s : State) → s .stage ≡ stage → (stage ≡ Stage.Hours → ⊥) → finished s ≡ refusalLines (r .found) (pick (r .hour) (bytes "hour") (bytes "settle"))) ⌝ }
 {
-    let stage = stream.stage;
     match stage {
-        Stage::Voll => print_refusal(Refusal { number: 3, line: 1 }, b"settle", out),
-        Stage::Floor => print_refusal(Refusal { number: 3, line: 2 }, b"settle", out),
-        Stage::Hours => print_hours(stream, held, out),
-        Stage::RefusedHour(found) => print_refusal(found, b"hour", out),
-        Stage::RefusedSettle(found) => print_refusal(found, b"settle", out),
+        Stage::Voll => {
+            let found = Refusal { number: 3, line: 1 };
+            return Ending { found, hour: false };
+        }
+        Stage::Floor => {
+            let found = Refusal { number: 3, line: 2 };
+            return Ending { found, hour: false };
+        }
+        Stage::Hours => {
+            let found = Refusal { number: 0, line: 0 };
+            return Ending { found, hour: false };
+        }
+        Stage::RefusedHour(found) => return Ending { found, hour: true },
+        Stage::RefusedSettle(found) => return Ending { found, hour: false },
     }
 }
 
@@ -86,5 +112,10 @@ fn print_end(stream: Stream, held: &[u8], out: &mut [u8]) -> usize
 pub fn finish(stream: Stream, buffer: &[u8; 65536], out: &mut [u8; 768]) -> usize
     ensures { λ r. ⌜ Printed (finished (stateOf stream (now (buffer .entry)))) (now (out .entry)) (now (out .exit)) r ⌝ }
 {
-    print_end(stream, part(buffer, 0, stream.held), out)
+    let stage = stream.stage;
+    let Stage::Hours = stage else {
+        let end = ended_by(stage);
+        return print_refusal(end.found, end.hour, out);
+    };
+    print_hours(stream, part(buffer, 0, stream.held), out)
 }

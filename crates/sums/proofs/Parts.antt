@@ -18,7 +18,8 @@ use Rattle.text.specs.Choice.{pick}
 use Rattle.curve_set.specs.Curves.{within}
 use Rattle.adder.specs.Sums.{noSums, plus, sumsPossible}
 use Rattle.adder.specs.declared.sums.Sums.{Sums}
-use Rattle.counted.specs.Counted.{countedOnline, countedOffline}
+use Rattle.online_units.specs.Online.{countedOnline}
+use Rattle.offline_units.specs.Offline.{countedOffline}
 use Rattle.sums.specs.Sums.{partOf, sumsOf}
 use Rattle.sums.specs.Range.{Times, SumsWithin}
 use Rattle.resource.specs.Range.{Between, Power, ResourceInRange}

@@ -1,12 +1,12 @@
 -- Document 01, "Snapshot to reserves": what each resource adds to the sums before the factor (000, 2.2.1).
-use mathlib.Core.Bool.{Bool, true, false, _&&_}
 use mathlib.Core.List.{List, [], _∷_}
-use lib.IntN.{ℤ, pos, _+ℤ_, _-ℤ_, _*ℤ_}
-use lib.Signed.{leZ, ltZ}
+use lib.IntN.{ℤ, pos, _+ℤ_, _-ℤ_}
+use lib.Signed.{ltZ}
 use Rattle.text.specs.Choice.{pick}
 use Rattle.adder.specs.Sums.{noSums, plus}
 use Rattle.adder.specs.declared.sums.Sums.{Sums}
-use Rattle.counted.specs.Counted.{countedOnline, countedOffline}
+use Rattle.online_units.specs.Online.{countedOnline}
+use Rattle.offline_units.specs.Offline.{countedOffline}
 use Rattle.resource.specs.declared.Resource.{Resource}
 use Rattle.resource.specs.declared.Resource.the-variants as resource
 

@@ -1,3 +1,2 @@
-// Refusals, and pieces of byte strings, each ended by a mark.
-pub mod piece;
+// Refusals.
 pub mod refusal;

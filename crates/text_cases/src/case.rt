@@ -5,17 +5,17 @@ use crate::show::show_count;
 use crate::show::show_fault;
 use crate::show::show_next;
 use crate::show::show_number;
-use block::block_fault;
+use answers::Line;
+use answers::NumberLine;
+use answers::WordLine;
+use answers::block_fault;
+use answers::end_at;
+use answers::end_fault;
 use block::read_block;
 use id::id_at;
-use line::Line;
-use line::end_at;
-use line::end_fault;
-use line::part;
-use number::NumberLine;
 use number::number_at;
+use piece::part;
 use text::refusal::Fault;
-use word::WordLine;
 use word::word_at;
 
 pub(crate) fn number_case(text: &[u8], at: usize, low: i64, high: i64) {

@@ -4,13 +4,12 @@ use crate::case::block_case;
 use crate::case::id_case;
 use crate::case::number_case;
 use crate::case::word_case;
-use line::part;
-use text::piece::piece_end;
+use piece::part;
+use piece::piece_end;
 
-// A number under the key x.
-fn number_of(letter: u8, text: &[u8]) {
+fn one_case(letter: u8, text: &[u8]) {
     match letter {
-        // From the start of the text, within a range of two digits.
+        // A number under the key x: from the start of the text, within a range of two digits.
         b'n' => number_case(text, 0, -20, 99),
         // The same on the second line, where the first has four bytes.
         b'l' => number_case(text, 4, -20, 99),
@@ -18,20 +17,14 @@ fn number_of(letter: u8, text: &[u8]) {
         b'p' => number_case(text, 99, -20, 99),
         // Every number of 64 bits.
         b'w' => number_case(text, 0, -9223372036854775807 - 1, 9223372036854775807),
-        // The letter e: a range that holds no number.
-        _ => number_case(text, 0, 5, 4),
-    }
-}
-
-fn one_case(letter: u8, text: &[u8]) {
-    match letter {
+        // A range that holds no number.
+        b'e' => number_case(text, 0, 5, 4),
         // A word under the key status.
         b's' => word_case(text),
         b'i' => id_case(text, b"id="),
         b'o' => id_case(text, b"owner="),
-        // The numbers month, hour and tie, and then the end of the text.
-        b'b' => block_case(text),
-        _ => number_of(letter, text),
+        // The letter b: the numbers month, hour and tie, and then the end of the text.
+        _ => block_case(text),
     }
 }
 

@@ -10,15 +10,15 @@ fn show_written(written: Written) {
         Written::Ended { next } => {
             show(b"written=");
             show_count(next);
+            show_byte(b'\n');
         }
-        Written::Short => show(b"refused=14 line=0"),
+        Written::Short => show(b"refused=14 line=0\n"),
     }
 }
 
 fn write_case(buffer: &mut [u8]) {
     let values = [7i64, 14, -3];
     show_written(write_block(buffer, 0, b"month=hour=tie=", &values));
-    show_byte(b'\n');
     show(buffer);
     show_byte(b'\n');
 }

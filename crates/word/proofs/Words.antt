@@ -10,16 +10,17 @@ use lib.ListN.{length, take, drop, getD, drop-of-length-le}
 use lib.Seq.{drop-cons}
 use borrow.Author.Tests.{eq-eqb, ne-eqb}
 use Rattle.text.specs.Choice.{pick}
-use Rattle.text.specs.Piece.{piecesFrom, piecesOf, pieceLength}
+use Rattle.piece.specs.Piece.{piecesFrom, piecesOf, pieceLength}
 use Rattle.word.specs.Word.{isWord, wordAmong, wordIn, judgedWord, wordField}
-use Rattle.line.specs.Line.{lineAt, part}
+use Rattle.line.specs.Line.{lineAt}
+use Rattle.piece.specs.Piece.{part}
 use Rattle.line.specs.Field.{fieldAt, judged}
-use Rattle.line.specs.declared.Line.{Line}
-use Rattle.line.specs.declared.Line.the-variants as line
+use Rattle.answers.specs.declared.Line.{Line}
+use Rattle.answers.specs.declared.Line.the-variants as line
 use Rattle.word.specs.declared.Word.{Word}
 use Rattle.word.specs.declared.Word.the-variants as word
 use Rattle.line.proofs.Fields.{field-value}
-use Rattle.text.proofs.Pieces.{piece-none, piece-next, piece-fits}
+use Rattle.piece.proofs.Pieces.{piece-none, piece-next, piece-fits}
 
 -- a value is as long as its word without the byte 10
 pub word-length : (value word : List ℕ) → (suc (length value) ≡ length word → ⊥) → isWord value word ≡ false

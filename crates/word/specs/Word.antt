@@ -1,18 +1,15 @@
 -- Words: a value that is no listed word is refused by 6.
-use Prim.Native.Nat.{ℕ, zero, suc, _+_}
-use mathlib.Core.Bool.{Bool, true, false}
-use mathlib.Core.List.{List, [], _∷_, _++_}
+use Prim.Native.Nat.{ℕ, zero, suc}
+use mathlib.Core.Bool.{Bool, false}
+use mathlib.Core.List.{List, [], _∷_}
 use lib.Dec.{eqb}
-use lib.ListN.{getD, length, take}
 use Rattle.text.specs.Choice.{pick}
-use Rattle.line.specs.Line.{fault}
-use Rattle.text.specs.Piece.{piecesOf}
+use Rattle.piece.specs.Piece.{piecesOf}
 use Rattle.line.specs.Field.{Judged, good, bad, Field, Answer, got, refused}
-use Rattle.text.specs.declared.refusal.Fault.{Fault}
 use Rattle.word.specs.declared.Word.{Word}
 use Rattle.word.specs.declared.Word.the-variants as word
-use Rattle.word.specs.declared.WordLine.{WordLine}
-use Rattle.word.specs.declared.WordLine.the-variants as word-line
+use Rattle.answers.specs.declared.WordLine.{WordLine}
+use Rattle.answers.specs.declared.WordLine.the-variants as word-line
 
 -- the words of a list, each with the byte 10 that ends it
 abbrev pub wordsOf : List ℕ → List (List ℕ)
@@ -61,8 +58,3 @@ wordField key words =
 abbrev pub wordAnswer : WordLine → Answer ℕ
 wordAnswer (word-line.Index index next) = got index next
 wordAnswer (word-line.Refused found) = refused found
-
--- the fault of a refused word; 0 stands for no refusal
-abbrev pub wordFault : WordLine → Fault
-wordFault (word-line.Index index next) = fault 0 next
-wordFault (word-line.Refused found) = found

@@ -1,24 +1,19 @@
 // Words: a value that is one of a list.
 ghost use mathlib.Core.Path.{_≡_};
-ghost use Rattle.word.specs.Word.{wordIn, wordField, wordAnswer, wordFault, isWord};
+ghost use Rattle.word.specs.Word.{wordIn, wordField, wordAnswer, isWord};
 ghost use Rattle.line.specs.Field.{fieldAt};
-use line::Line;
-use line::fault_of;
+use answers::Line;
+use answers::WordLine;
+use answers::line_fault;
 use line::line_at;
-use line::part;
-use text::piece::piece_end;
+use piece::part;
+use piece::piece_end;
 use text::refusal::Fault;
 
 // Which word of a list a value is, counted from 0.
 pub enum Word {
     Index(usize),
     Unknown,
-}
-
-// What the word reader finds at a position.
-pub enum WordLine {
-    Index { index: usize, next: usize },
-    Refused(Fault),
 }
 
 // Whether a value is a word, given with the byte 10 that ends it.
@@ -67,24 +62,11 @@ pub fn word_at(text: &[u8], at: usize, key: &[u8], words: &[u8]) -> WordLine
 {
     let l = line_at(text, at, key);
     let Line::Value { start, end, next } = l else {
-        return WordLine::Refused(fault_of(l));
+        return WordLine::Refused(line_fault(l));
     };
     let w = word_in(part(text, start, end), words);
     match w {
         Word::Index(index) => WordLine::Index { index, next },
         Word::Unknown => WordLine::Refused(Fault { number: 6, at }),
-    }
-}
-
-// The fault of a refused word.
-pub fn word_fault(line: WordLine) -> Fault
-    ensures { λ r. ⌜ r ≡ wordFault line ⌝ }
-{
-    match line {
-        WordLine::Refused(fault) => fault,
-        WordLine::Index { index: _, next } => Fault {
-            number: 0,
-            at: next,
-        },
     }
 }

@@ -11,16 +11,18 @@ use lib.ListN.{length, take, drop, length-append}
 use lib.Seq.{drop-append-seam, drop-append-add, take-append-seam, take-at, drop-drop, take-length, length-take-le}
 use borrow.Author.Tests.{ltb-true, eqb-true, eq-eqb, lt-ltb, ne-eqb}
 use Rattle.text.specs.Choice.{pick}
-use Rattle.line.specs.Line.{lineLength, begins, part, fault, lineIn, lineAt}
+use Rattle.line.specs.Line.{lineLength, begins, lineIn, lineAt}
+use Rattle.piece.specs.Piece.{part}
 use Rattle.line.specs.Field.{Judged, good, bad, Field, Answer, got, refused, judged, valueIn, fieldAt}
 use Rattle.block.specs.Block.{andThen, readFields, writeFields}
 use Rattle.writer.specs.Promises.{OneLine, Sound, Fitting, AllSound, none-sound, one-sound, none-fitting, one-fitting, WrittenIsReadBack, ReadIsWrittenBack, OneText}
 use Rattle.text.specs.declared.refusal.Fault.{Fault}
-use Rattle.line.specs.declared.Line.{Line}
-use Rattle.line.specs.declared.Line.the-variants as line
+use Rattle.answers.specs.declared.Line.{Line}
+use Rattle.answers.specs.declared.Line.the-variants as line
 use Rattle.number.specs.declared.Number.the-variants as number
-use Rattle.block.specs.declared.Block.the-variants as block
+use Rattle.answers.specs.declared.Block.the-variants as block
 use Rattle.text.proofs.Choices.{chosen, passed-over}
+use Rattle.answers.specs.Answers.{fault}
 
 -- ---- write then read
 

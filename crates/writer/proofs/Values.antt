@@ -16,7 +16,7 @@ use Rattle.number.specs.Number.{numberOf, writtenNumber, inRange, ranged}
 use Rattle.line.specs.Field.{good, bad}
 use Rattle.number.specs.Field.{judgedNumber}
 use Rattle.block.specs.Block.{keysOf, numberFields, writeFields}
-use Rattle.text.specs.Piece.{piecesFrom}
+use Rattle.piece.specs.Piece.{piecesFrom}
 use Rattle.word.specs.Word.{wordsOf, isWord, wordAmong, wordIn, judgedWord, withoutLast, writtenWord}
 use Rattle.id.specs.Id.{isIdByte, allIdBytes, isId}
 use Rattle.writer.specs.Promises.{OneLine, AllSound, none-sound, one-sound, NumbersAreSound, NumbersInRangeFit, WordsAreSound, WordsFit, IdsAreSound, IdsFit}

@@ -13,14 +13,14 @@ use lib.Seq.{drop-cons, length-take-le}
 use borrow.Author.Tests.{leb-true, leb-false, le-leb, lt-leb}
 use Rattle.text.specs.Choice.{pick}
 use Rattle.number.specs.Number.{digitsOf, writtenNumber}
-use Rattle.text.specs.Piece.{pieceLength}
-use Rattle.line.specs.Line.{part}
+use Rattle.piece.specs.Piece.{pieceLength}
+use Rattle.piece.specs.Piece.{part}
 use Rattle.block.specs.Block.{keysOf}
 use Rattle.writer.specs.Write.{laidAt, writtenLine, writtenNumbers, lengthWithin, TextWritten}
 use Rattle.writer.specs.declared.Length.the-variants as length-of
 use Rattle.writer.specs.declared.Written.the-variants as written
 use Rattle.writer.proofs.WrittenDigits.{digits-one, digits-more, count-one, count-more, count-bound, digits-some}
-use Rattle.text.proofs.Pieces.{piece-none, piece-next, piece-fits}
+use Rattle.piece.proofs.Pieces.{piece-none, piece-next, piece-fits}
 use Rattle.writer.proofs.Laid.{laid-none, laid-then, laid-more, laid-less}
 
 -- ---- a number by its magnitude

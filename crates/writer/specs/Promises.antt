@@ -6,13 +6,14 @@ use lib.IntN.{ℤ}
 use lib.Signed.{_≤ℤ_}
 use mathlib.Core.Bool.{true}
 use lib.ListN.{length}
-use Rattle.line.specs.Line.{part, lineLength}
+use Rattle.line.specs.Line.{lineLength}
+use Rattle.piece.specs.Piece.{part}
 use Rattle.line.specs.Field.{Field, good}
 use Rattle.number.specs.Field.{numberField}
-use Rattle.block.specs.Block.{Reading, readFields, writeFields}
+use Rattle.block.specs.Block.{readFields, writeFields}
 use Rattle.word.specs.Word.{wordsOf, wordIn, writtenWord, wordField}
 use Rattle.id.specs.Id.{isId, idField}
-use Rattle.block.specs.declared.Block.the-variants as block
+use Rattle.answers.specs.declared.Block.the-variants as block
 use Rattle.word.specs.declared.Word.the-variants as word
 
 -- bytes with no byte 10 among them

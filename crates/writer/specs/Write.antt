@@ -1,5 +1,5 @@
 -- Writing: the text of values by a schema of numbers, and a text laid into a lent buffer. Bytes after it stay; a buffer that is too short stays whole (14).
-use Prim.Native.Nat.{ℕ, zero, suc, _+_}
+use Prim.Native.Nat.{ℕ, _+_}
 use mathlib.Core.Path.{_≡_}
 use mathlib.Core.List.{List, [], _∷_, _++_}
 use lib.Dec.{leb}

@@ -6,7 +6,7 @@ ghost use Rattle.number.specs.Number.{digitsOf, writtenNumber};
 ghost use Rattle.block.specs.Block.{keysOf};
 ghost use Rattle.writer.specs.Write.{laidAt, lengthWithin, writtenLine, writtenNumbers, BlockWritten};
 use integer::magnitude;
-use text::piece::piece_end;
+use piece::piece_end;
 
 pub mod output;
 

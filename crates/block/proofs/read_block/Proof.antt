@@ -6,7 +6,7 @@ use lib.IntN.{pos}
 use mir.Syntax.{w64}
 use mir.Facts.{toZ-ofZ}
 use lib.ListN.{length}
-use Rattle.text.proofs.Pieces.{piece-fits}
+use Rattle.piece.proofs.Pieces.{piece-fits}
 use Rattle.block.proofs.Blocks.{BlockFrom, block-start, block-places, block-lows, block-highs, block-keys, block-refused, block-more}
 use native.Mathlib.Omega.{arith}
 use Rattle.block.proofs.read_block.Statement.{statement}

@@ -1,9 +1,10 @@
 -- `curve::curve_text::curves_of` meets its contract. The invariant: the pairs so far, and then those of the values that are left, are the pairs of the values.
 use borrow.Author.Needs.{sfits-of}
-use Prim.Native.Nat.{suc, _+_, _*_, _-_, _≤_, _<_}
+use Prim.Native.Nat.{ℕ, suc, _+_, _*_, _-_, _≤_, _<_}
 use mathlib.Core.List.{_++_, append-nil}
-use mathlib.Core.Path.{_≡_, refl, _∙_}
-use lib.ListN.{length, take, drop, length-set}
+use mathlib.Core.Path.{_≡_, refl, sym, ap, ap₂, _∙_}
+use lib.IntN.{ℤ}
+use lib.ListN.{length, take, drop, set, length-set}
 use lib.Seq.{take-all}
 use mir.Facts.{toZ-ofZ}
 use Rattle.curve_values.specs.CurveValues.{pairsOf}
@@ -67,8 +68,10 @@ loop-again c =
     let left : 24 - loop .i ≡ suc (24 - (loop .i + 1)) = omega (arith, turn .loop-test .taken) in (
       omega (arith, turn .loop-test .taken),
       simp length-set (loop .inv .1),
-      rw (toZ-ofZ (sfits-of (c .before .mean .given)), toZ-ofZ (sfits-of (c .spread .given)))
-          (loop .inv .2 ∙ rw left (pairs-more (loop .pairs) values (loop .i) (24 - (loop .i + 1)) inside)),
+      loop .inv .2 ∙ ap (λ (n : ℕ). take (loop .i) (loop .pairs) ++ pairsOf n (drop (2 + 2 * loop .i) values)) left
+          ∙ pairs-more (loop .pairs) values (loop .i) (24 - (loop .i + 1)) inside
+          ∙ ap₂ (λ (mean spread : ℤ). take (loop .i + 1) (set (loop .pairs) (loop .i) (record { mean = mean; spread = spread })) ++ pairsOf (24 - (loop .i + 1)) (drop (2 + 2 * (loop .i + 1)) values))
+          (sym (toZ-ofZ (sfits-of (c .before .mean .given)))) (sym (toZ-ofZ (sfits-of (c .spread .given)))),
     )
 
 array-copy-out-voll : tie.Need-array-copy-out-voll Inv-loop μ-loop

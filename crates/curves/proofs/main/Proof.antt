@@ -1,17 +1,8 @@
 use Prim.Native.Nat.{_≤_, _-_}
 use borrow.Author.Needs.{needs}
-use native.Mathlib.Omega.{arith}
 use Rattle.curves.proofs.main.Statement.{statement}
 use Rattle.curves.proofs.main.Tie as tie
 use Rattle.curves.proofs.main.Reads as reads
-use Rattle.curves.proofs.main.Lts as lts
-use Rattle.curves.proofs.feed.Reads as feed-reads
-use Rattle.curves.proofs.print.Reads as print-reads
-use Rattle.curves.proofs.read.Reads as read-reads
-use Rattle.io.proofs.large_buffer.Reads as large-buffer-reads
-use Rattle.stream.proofs.is_refused.Reads as is-refused-reads
-use Rattle.stream_output.proofs.finish.Reads as finish-reads
-use Rattle.stream.proofs.start.Reads as start-reads
 
 abbrev Inv-loop : tie.InvT-loop
 Inv-loop buffer₀ input₀ current₀ reads₀ buffer input current reads = reads ≤ 1099511627776

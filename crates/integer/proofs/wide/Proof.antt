@@ -1,7 +1,5 @@
 use mathlib.Core.Path.{refl}
 use native.Mathlib.Omega.{arith}
-use mir.Syntax.{w64}
-use mir.Val.{SFits}
 use mir.Facts.{toZ-ofZ, sfits-widen}
 use Rattle.integer.proofs.Bounds.{fits-abs}
 use Rattle.integer.proofs.wide.Statement.{statement}

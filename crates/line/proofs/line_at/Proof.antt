@@ -1,7 +1,7 @@
 -- Each refusal is a law of lines, and so is the value; the line's end is found from after the key where the line begins with it.
 use Prim.Native.Nat.{_+_}
 use mathlib.Core.Path.{refl}
-use lib.ListN.{length, drop}
+use lib.ListN.{drop}
 use Rattle.line.specs.Line.{lineLength}
 use Rattle.line.proofs.Lines.{unended-line, other-line, empty-line, value-line, key-in-rest, ends-after, key-within}
 use native.Mathlib.Omega.{arith}

@@ -58,14 +58,14 @@ enum-known-l c = omega arith
 enum-told : tie.Need-enum-told
 enum-told c = omega arith
 
-fault-of-requires : tie.Need-fault-of-requires
-fault-of-requires c κs = tt
+line-fault-requires : tie.Need-line-fault-requires
+line-fault-requires c κs = tt
 
 returns-2 : tie.Need-returns-2
 returns-2 c =
     let l = c .before .before .before in
     let a = l .before .before .before .before .before .before .args in
-    ap refused (c .fault-of .ensures) ∙ field-refused (numberField (a .key .now) (a .low) (a .high)) (a .text .now) (a .at) (l .line-at .ensures) (c .before .enum-told .given .1)
+    ap refused (c .line-fault .ensures) ∙ field-refused (numberField (a .key .now) (a .low) (a .high)) (a .text .now) (a .at) (l .line-at .ensures) (c .before .enum-told .given .1)
 
 part-requires-2 : tie.Need-part-requires-2
 part-requires-2 c κs = tt
@@ -101,7 +101,7 @@ number-at-spec =
     line-at-requires
     enum-known-l
     enum-told
-    fault-of-requires
+    line-fault-requires
     returns-2
     part-requires-2
     number-in-requires

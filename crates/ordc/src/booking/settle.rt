@@ -1,12 +1,11 @@
 // Settling a record.
-ghost use mathlib.Core.Path.{_≡_};
-ghost use Rattle.ordc.specs.Record.{recordOf, RecordSettled};
+ghost use Rattle.ordc.specs.Record.{RecordSettled};
 use crate::booking::record_of;
 use crate::refusal::Refusal;
 use crate::refusal::is_refusal;
 use crate::refusal::refusal_in;
 use curve_values::values_of;
-use record::settle::settle;
+use settling::settle;
 
 // The curves of a lent record, with VOLL in cents per MWh and the minimum contingency level X in kW, laid into a lent curve set, which a refusal leaves as it was.
 #[no_mangle]

@@ -1,10 +1,7 @@
 -- Each way through the loop is one law on the rest of the input.
 use Prim.Native.Nat.{_-_}
-use mathlib.Core.Path.{refl, subst⁻¹}
-use mathlib.Core.Bool.{Bool}
 use mathlib.Core.Logic.{⊎-elim}
 use native.Mathlib.Omega.{arith}
-use borrow.Author.Needs.{needs}
 use lib.ListN.{length}
 use Rattle.price_text.proofs.EmptyLine.{Passed, empty-line-here, line-ended, in-line, no-empty-line}
 use Rattle.price_text.proofs.empty_line.Statement.{statement}

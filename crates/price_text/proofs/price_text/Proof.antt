@@ -1,7 +1,7 @@
 -- Each way to the end prints what the definition says.
 use native.Mathlib.Omega.{arith}
 use borrow.Author.Needs.{needs}
-use mathlib.Core.Path.{_≡_, ap, _∙_}
+use mathlib.Core.Path.{ap, _∙_}
 use mathlib.Core.Bool.{true}
 use Rattle.text.specs.Bytes.{bytes}
 use Rattle.curve.specs.CurveText.{readCurves}

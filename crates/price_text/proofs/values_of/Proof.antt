@@ -1,5 +1,5 @@
 -- The numbers are small, so that each fits.
-use borrow.Author.Needs.{needs, sfits-of}
+use borrow.Author.Needs.{sfits-of}
 use native.Mathlib.Omega.{arith}
 use mir.Facts.{toZ-ofZ}
 use Rattle.integer.proofs.Bounds.{abs-fits}

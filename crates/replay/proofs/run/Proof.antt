@@ -14,17 +14,8 @@ abbrev μ-loop : tie.MeasureT-loop
 loop-holds : tie.Need-loop-holds Inv-loop μ-loop
 loop-holds c = omega arith
 
-sub-if1 : tie.Need-sub-if1 Inv-loop μ-loop
-sub-if1 c = omega arith
-
-same-length : tie.Need-same-length Inv-loop μ-loop
-same-length c = omega arith
-
-returns : tie.Need-returns Inv-loop μ-loop
-returns c = tt
-
-add-start : tie.Need-add-start Inv-loop μ-loop
-add-start c = omega arith
+after-requires : tie.Need-after-requires Inv-loop μ-loop
+after-requires c κs = tt
 
 shared-slice-read-run-case : tie.Need-shared-slice-read-run-case Inv-loop μ-loop
 shared-slice-read-run-case c = omega arith
@@ -32,11 +23,11 @@ shared-slice-read-run-case c = omega arith
 run-case-requires : tie.Need-run-case-requires Inv-loop μ-loop
 run-case-requires c κs = tt
 
-same-length-2 : tie.Need-same-length-2 Inv-loop μ-loop
-same-length-2 c = omega arith
+same-length : tie.Need-same-length Inv-loop μ-loop
+same-length c = omega arith
 
-returns-2 : tie.Need-returns-2 Inv-loop μ-loop
-returns-2 c = tt
+returns : tie.Need-returns Inv-loop μ-loop
+returns c = tt
 
 loop-less : tie.Need-loop-less Inv-loop μ-loop
 loop-less c = omega arith
@@ -44,11 +35,11 @@ loop-less c = omega arith
 loop-again : tie.Need-loop-again Inv-loop μ-loop
 loop-again c = omega arith
 
-same-length-3 : tie.Need-same-length-3 Inv-loop μ-loop
-same-length-3 c = omega arith
+same-length-2 : tie.Need-same-length-2 Inv-loop μ-loop
+same-length-2 c = omega arith
 
-returns-3 : tie.Need-returns-3 Inv-loop μ-loop
-returns-3 c = tt
+returns-2 : tie.Need-returns-2 Inv-loop μ-loop
+returns-2 c = tt
 
 pub run-spec : {M : Type 1} → statement M
 run-spec =
@@ -57,15 +48,12 @@ run-spec =
     Inv-loop
     μ-loop
     loop-holds
-    sub-if1
-    same-length
-    returns
-    add-start
+    after-requires
     shared-slice-read-run-case
     run-case-requires
-    same-length-2
-    returns-2
+    same-length
+    returns
     loop-less
     loop-again
-    same-length-3
-    returns-3)
+    same-length-2
+    returns-2)

@@ -1,11 +1,8 @@
 use native.Mathlib.Omega.{arith}
-use native.Mathlib.Nat.{div-le-self}
 use mathlib.Core.Path.{refl}
 use Rattle.season.specs.Season.{groupOf, seasonOf, blockOf}
 use Rattle.season.proofs.group_of.Statement.{statement}
 use Rattle.season.proofs.group_of.Tie as tie
-use Rattle.season.proofs.group_of.Reads as reads
-use Rattle.season.proofs.group_of.Lts as lts
 
 mul-result : tie.Need-mul-result
 mul-result c = omega arith

@@ -15,8 +15,8 @@ counted c =
 magnitude-requires : tie.Need-magnitude-requires
 magnitude-requires c κs = tt
 
-counted-resources-requires : tie.Need-counted-resources-requires
-counted-resources-requires c κs = rw (counted c) (c .before .before .before .pre)
+resources-in-requires : tie.Need-resources-in-requires
+resources-in-requires c κs = rw (counted c) (c .before .before .before .pre)
 
 enum-known-r : tie.Need-enum-known-r
 enum-known-r c = c .match .keys1
@@ -28,7 +28,7 @@ returns : tie.Need-returns
 returns c =
     let found = c .before .before .before .before in
     let start = c .before .before .before .before .before .before .before .before in
-    rest-refused (start .args .text .now) (start .args .header) (start .args .at) (found .counted-resources .result) (counted (found .before)) (found .counted-resources .ensures)
+    rest-refused (start .args .text .now) (start .args .header) (start .args .at) (found .resources-in .result) (counted (found .before)) (found .resources-in .ensures)
     (c .before .before .r .given .1) (c .refusal-of .ensures)
 
 enum-known-r-2 : tie.Need-enum-known-r-2
@@ -47,7 +47,7 @@ returns-2 : tie.Need-returns-2
 returns-2 c =
     let found = c .before .before .before .before .before .before .before .before in
     let start = c .before .before .before .before .before .before .before .before .before .before .before .before in
-    rest-end (start .args .text .now) (start .args .header) (start .args .at) (found .counted-resources .result) (counted (found .before)) (found .counted-resources .ensures)
+    rest-end (start .args .text .now) (start .args .header) (start .args .at) (found .resources-in .result) (counted (found .before)) (found .resources-in .ensures)
     (c .before .before .before .before .before .before .r2 .given .1) (c .before .before .before .before .end-at .ensures) (c .before .before .e .given .1) (c .refusal-of2 .ensures)
 
 enum-told : tie.Need-enum-told
@@ -57,7 +57,7 @@ returns-3 : tie.Need-returns-3
 returns-3 c =
     let found = c .before .before .before .before .before .before in
     let start = c .before .before .before .before .before .before .before .before .before .before in
-    rest-whole (start .args .text .now) (start .args .header) (start .args .at) (found .counted-resources .result) (counted (found .before)) (found .counted-resources .ensures)
+    rest-whole (start .args .text .now) (start .args .header) (start .args .at) (found .resources-in .result) (counted (found .before)) (found .resources-in .ensures)
     (c .before .before .before .before .r2 .given .1) (c .before .before .end-at .ensures) (c .enum-told .given .1)
 
 pub after-header-spec : {M : Type 1} → statement M
@@ -65,7 +65,7 @@ after-header-spec =
     tie.close
     (tie.spec
     magnitude-requires
-    counted-resources-requires
+    resources-in-requires
     enum-known-r
     refusal-of-requires
     returns

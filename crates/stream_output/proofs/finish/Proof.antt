@@ -1,23 +1,48 @@
+use mathlib.Core.Path.{_≡_, refl}
+use mathlib.Core.List.{[], _∷_}
 use native.Mathlib.Nat.{sub-zero}
-use native.Mathlib.Omega.{arith}
+use types.Run.{miss}
+use Rattle.stream.specs.Stream.{stateOf, finished}
+use Rattle.stream.specs.declared.Stage.the-variants as stage
 use borrow.Author.Needs.{needs}
 use Rattle.stream_output.proofs.finish.Statement.{statement}
 use Rattle.stream_output.proofs.finish.Tie as tie
-use Rattle.stream_output.proofs.finish.Reads as reads
-use Rattle.stream_output.proofs.finish.Lts as lts
-use Rattle.stream_output.proofs.print_end.Reads as print-end-reads
-use Rattle.line.proofs.part.Reads as part-reads
 
-part-requires : tie.Need-part-requires
-part-requires c κs = search needs
+enum-told : tie.Need-enum-told
+enum-told c = c .match .keys1
 
-print-end-requires : tie.Need-print-end-requires
-print-end-requires c κs = search needs
+ended-by-requires : tie.Need-ended-by-requires
+ended-by-requires c κs = tt
+
+print-refusal-requires : tie.Need-print-refusal-requires
+print-refusal-requires c κs = search needs
 
 returns : tie.Need-returns
 returns c =
     let s = c .before .before .before .before in
-    rw (c .before .before .part .ensures, sub-zero (s .args .stream .held)) at (c .print-end .ensures)
+    let other : s .args .stream .stage ≡ stage.Hours → ⊥ = λ here. miss (0 ∷ 1 ∷ 3 ∷ 4 ∷ []) 2 tt (rw here at (c .before .before .before .match .keys2)) in
+    rw (c .before .before .ended-by .ensures (stateOf (s .args .stream) (s .args .buffer .now)) refl other) (c .print-refusal .ensures)
+
+part-requires : tie.Need-part-requires
+part-requires c κs = tt
+
+print-hours-requires : tie.Need-print-hours-requires
+print-hours-requires c κs = search needs
+
+returns-2 : tie.Need-returns-2
+unfolding finished
+returns-2 c =
+    let s = c .before .before .before .before .before .before in
+    rw (c .before .before .before .before .enum-told .given .1) (rw (c .before .before .part .ensures, sub-zero (s .args .stream .held)) at (c .print-hours .ensures))
 
 pub finish-spec : {M : Type 1} → statement M
-finish-spec = tie.close (tie.spec part-requires print-end-requires returns)
+finish-spec =
+    tie.close
+    (tie.spec
+    enum-told
+    ended-by-requires
+    print-refusal-requires
+    returns
+    part-requires
+    print-hours-requires
+    returns-2)

@@ -1,19 +1,12 @@
-use lib.ListN.{length, length-map}
-use mir.Facts.{toZ-ofZ}
 use mathlib.Core.Path.{_≡_, sym, ap, _∙_}
-use Rattle.text.specs.Bytes.{bytes}
+use mir.Facts.{toZ-ofZ}
+use lib.ListN.{length, length-map}
 use Rattle.curve_set.specs.declared.Curves.{Curves}
-use Rattle.record.specs.Settle.{settled}
+use Rattle.settling.specs.Settle.{settled}
 use Rattle.stream.proofs.Printing.{curves-printed, never-refused}
-use native.Mathlib.Omega.{arith}
 use borrow.Author.Needs.{needs}
 use Rattle.stream_output.proofs.print_curves.Statement.{statement}
 use Rattle.stream_output.proofs.print_curves.Tie as tie
-use Rattle.stream_output.proofs.print_curves.Reads as reads
-use Rattle.stream_output.proofs.print_curves.Lts as lts
-use Rattle.curve.proofs.write_curves.Reads as write-curves-reads
-use Rattle.record.proofs.settle.settle.Reads as settle-reads
-use Rattle.stream_output.proofs.print_refusal.Reads as print-refusal-reads
 
 groups-whole : (c : tie.Start) → length (c .args .history .groups) ≡ 24
 groups-whole c = simp length-map at (c .good .0 .1 .1 .0 .1 .0 .1)
@@ -22,50 +15,43 @@ settle-is : (c : tie.After-settle) → let s = c .before .before .args in c .set
 settle-is c = let s = c .before .before in c .settle .ensures ∙ rw (toZ-ofZ (s .fits .voll), toZ-ofZ (s .fits .floor))
 
 settle-requires : tie.Need-settle-requires
-settle-requires c κs = search needs
+settle-requires c κs = tt
 
 enum-known-answer : tie.Need-enum-known-answer
-enum-known-answer c = search needs
-
-slice-aggregate-print-refusal : tie.Need-slice-aggregate-print-refusal
-slice-aggregate-print-refusal c = search needs
+enum-known-answer c = c .match .keys1
 
 print-refusal-requires : tie.Need-print-refusal-requires
 print-refusal-requires c κs = search needs
-
-enum-told : tie.Need-enum-told
-enum-told c = search needs
-
-write-curves-requires : tie.Need-write-curves-requires
-write-curves-requires c κs = search needs
-
-enum-known-w : tie.Need-enum-known-w
-enum-known-w c = search needs
-
-enum-told-2 : tie.Need-enum-told-2
-enum-told-2 c = search needs
 
 same-length : tie.Need-same-length
 same-length c = search needs
 
 returns : tie.Need-returns
-returns c =
+returns c = let a = c .before .before .before .before .before .before .before in rw (sym (settle-is a), c .before .before .before .before .before .answer .given .1) (c .before .before .print-refusal .ensures)
+
+enum-told : tie.Need-enum-told
+enum-told c = c .match .keys2
+
+write-curves-requires : tie.Need-write-curves-requires
+write-curves-requires c κs = search needs
+
+enum-known-w : tie.Need-enum-known-w
+enum-known-w c = c .match2 .keys1
+
+enum-told-2 : tie.Need-enum-told-2
+enum-told-2 c = c .match2 .keys2
+
+same-length-2 : tie.Need-same-length-2
+same-length-2 c = search needs
+
+returns-2 : tie.Need-returns-2
+returns-2 c =
     let a = c .before .before .before .before .before .before .before .before in
     let s = a .before .before in
     let w = c .before .before .before .before in
     absurd
     (never-refused (s .args .history) (s .args .voll) (s .args .floor) (groups-whole s) (sym (ap (λ (x : Curves). x .answer) (settle-is a)) ∙ c .before .before .before .before .before .before .enum-told .given .1)
     (s .args .out .now) (w .write-curves .last .1 .0) (s .pre) (w .write-curves .result) (rw (settle-is a) at (w .write-curves .ensures)) (c .enum-told2 .given .0 .0) (c .enum-told2 .given .1))
-
-same-length-2 : tie.Need-same-length-2
-same-length-2 c = search needs
-
-returns-2 : tie.Need-returns-2
-unfolding bytes
-returns-2 c =
-    let a = c .before .before .before .before .before .before .before .before in
-    let s = a .before .before in
-    rw (sym (settle-is a), c .before .before .before .before .before .before .answer .given .1) (c .before .before .print-refusal .ensures)
 
 same-length-3 : tie.Need-same-length-3
 same-length-3 c = search needs
@@ -84,14 +70,13 @@ print-curves-spec =
     (tie.spec
     settle-requires
     enum-known-answer
-    slice-aggregate-print-refusal
     print-refusal-requires
+    same-length
+    returns
     enum-told
     write-curves-requires
     enum-known-w
     enum-told-2
-    same-length
-    returns
     same-length-2
     returns-2
     same-length-3

@@ -1,62 +1,44 @@
-use Prim.Native.Nat.{ℕ, _≤_, _<_, _^_}
-use mathlib.Core.Path.{_≡_}
-use mathlib.Core.List.{List}
-use lib.ListN.{length}
-use Rattle.text.specs.declared.refusal.Refusal.{Refusal}
-use Rattle.writer.specs.Output.{refusalLines}
-use Rattle.stream.proofs.Printing.{refusal-short, text-printed, never-short}
-use native.Mathlib.Omega.{arith}
+use mathlib.Core.Path.{refl}
+use Rattle.text.specs.Bytes.{bytes}
 use borrow.Author.Needs.{needs}
 use Rattle.stream_output.proofs.print_refusal.Statement.{statement}
 use Rattle.stream_output.proofs.print_refusal.Tie as tie
-use Rattle.stream_output.proofs.print_refusal.Reads as reads
-use Rattle.stream_output.proofs.print_refusal.Lts as lts
-use Rattle.writer.proofs.output.write_refusal.Reads as write-refusal-reads
 
-write-refusal-requires : tie.Need-write-refusal-requires
-write-refusal-requires c κs = search needs
+slice-aggregate-print-lines : tie.Need-slice-aggregate-print-lines
+slice-aggregate-print-lines c = refl
 
-enum-known-w : tie.Need-enum-known-w
-enum-known-w c = search needs
-
-enum-told : tie.Need-enum-told
-enum-told c = search needs
+print-lines-requires : tie.Need-print-lines-requires
+print-lines-requires c κs = search needs
 
 same-length : tie.Need-same-length
 same-length c = search needs
 
-short : (found : Refusal) (name out : List ℕ) → found .number < 2 ^ 64 → found .line < 2 ^ 64 → length name ≤ 6 → length out ≡ 768 →
-    length (refusalLines found name) ≤ length out
-short found name out number line small room = omega (arith, refusal-short found name number line small)
-
 returns : tie.Need-returns
-returns c =
-    let s = c .before .before .before .before .before .before .before .before in
-    let w = c .before .before .before .before in
-    absurd
-    (never-short (refusalLines (s .args .found) (s .args .name .now)) (s .args .out .now) (w .write-refusal .last .0) (w .write-refusal .result)
-    (short (s .args .found) (s .args .name .now) (s .args .out .now) (omega arith) (omega arith) (s .pre .1) (s .pre .0))
-    (w .write-refusal .ensures) (c .enum-told .given .1))
+unfolding bytes
+returns c = rw (c .before .before .before .before .before .if1 .taken) (c .before .before .print-lines .ensures)
+
+slice-aggregate-print-lines-2 : tie.Need-slice-aggregate-print-lines-2
+slice-aggregate-print-lines-2 c = refl
+
+print-lines-requires-2 : tie.Need-print-lines-requires-2
+print-lines-requires-2 c κs = search needs
 
 same-length-2 : tie.Need-same-length-2
 same-length-2 c = search needs
 
 returns-2 : tie.Need-returns-2
-returns-2 c =
-    let s = c .before .before .before .before .before .before .before .before .before in
-    let w = c .before .before .before .before .before in
-    text-printed (refusalLines (s .args .found) (s .args .name .now)) (s .args .out .now) (w .write-refusal .last .0) (w .write-refusal .result)
-    (short (s .args .found) (s .args .name .now) (s .args .out .now) (omega arith) (omega arith) (s .pre .1) (s .pre .0))
-    (w .write-refusal .ensures) (c .before .w .given .0 .0) (c .before .w .given .1)
+unfolding bytes
+returns-2 c = rw (c .before .before .before .before .before .if1 .left) (c .before .before .print-lines2 .ensures)
 
 pub print-refusal-spec : {M : Type 1} → statement M
 print-refusal-spec =
     tie.close
     (tie.spec
-    write-refusal-requires
-    enum-known-w
-    enum-told
+    slice-aggregate-print-lines
+    print-lines-requires
     same-length
     returns
+    slice-aggregate-print-lines-2
+    print-lines-requires-2
     same-length-2
     returns-2)

@@ -2,7 +2,7 @@ use mathlib.Core.Path.{_≡_, refl, sym, _∙_}
 use borrow.Author.Needs.{sfits-of}
 use mir.Facts.{toZ-ofZ}
 use mir.Syntax.{w32, w64}
-use Rattle.counted.specs.Counted.{countedOffline}
+use Rattle.offline_units.specs.Offline.{countedOffline}
 use Rattle.sums.specs.Sums.{partOf}
 use Rattle.sums.proofs.generator_part.Statement.{statement}
 use Rattle.sums.proofs.generator_part.Tie as tie

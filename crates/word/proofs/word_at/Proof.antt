@@ -17,13 +17,13 @@ enum-known-l c = omega arith
 enum-told : tie.Need-enum-told
 enum-told c = omega arith
 
-fault-of-requires : tie.Need-fault-of-requires
-fault-of-requires c κs = tt
+line-fault-requires : tie.Need-line-fault-requires
+line-fault-requires c κs = tt
 
 returns : tie.Need-returns
 returns c =
     let a = c .before .before .before .before .before .before .before .args in
-    ap refused (c .fault-of .ensures)
+    ap refused (c .line-fault .ensures)
     ∙ field-refused (wordField (a .key .now) (a .words .now)) (a .text .now) (a .at) (c .before .before .before .line-at .ensures) (c .before .enum-told .given .1)
 
 part-requires : tie.Need-part-requires
@@ -73,7 +73,7 @@ word-at-spec =
     line-at-requires
     enum-known-l
     enum-told
-    fault-of-requires
+    line-fault-requires
     returns
     part-requires
     word-in-requires

@@ -2,7 +2,7 @@
 use Prim.Native.Nat.{_-_}
 use mathlib.Core.Path.{refl, sym, _∙_}
 use lib.ListN.{length}
-use Rattle.text.proofs.Pieces.{piece-fits}
+use Rattle.piece.proofs.Pieces.{piece-fits}
 use Rattle.word.proofs.Words.{WordsFrom, words-over, words-none, words-found, words-more}
 use native.Mathlib.Omega.{arith}
 use Rattle.word.proofs.word_in.Statement.{statement}

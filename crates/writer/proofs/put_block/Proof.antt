@@ -9,7 +9,7 @@ use lib.ListN.{length, getD, length-append}
 use mir.Facts.{toZ-ofZ}
 use mir.Syntax.{w64}
 use mir.Val.{toZ, ofZ}
-use Rattle.line.specs.Line.{part}
+use Rattle.piece.specs.Piece.{part}
 use Rattle.writer.specs.Write.{laidAt, writtenLine}
 use Rattle.writer.proofs.Laid.{laid-none, laid-then}
 use Rattle.writer.proofs.Writing.{Passed, passed-none, passed-values, passed-keys, passed-end, passed-line, passed-line-done, passed-within}

@@ -1,6 +1,4 @@
 use native.Mathlib.Omega.{arith}
-use mathlib.Core.Path.{refl}
-use Rattle.hour.specs.Hour.{intervalFault}
 use Rattle.hour.proofs.intervals.interval_fault.Statement.{statement}
 use Rattle.hour.proofs.intervals.interval_fault.Tie as tie
 

@@ -1,10 +1,9 @@
 -- Digits that were all read have their value; digits that follow a value past the limit leave it there.
 use mathlib.Core.Path.{_≡_, ap, _∙_}
 use lib.ListN.{drop}
-use Rattle.line.proofs.Lines.{part-whole}
+use Rattle.piece.proofs.Parts.{part-whole}
 use Rattle.number.specs.Number.{allDigits}
 use Rattle.number.proofs.Naturals.{DigitsRead, value-whole, value-limit}
-use native.Mathlib.Omega.{arith}
 use Rattle.number.proofs.natural.magnitude_of.Statement.{statement}
 use Rattle.number.proofs.natural.magnitude_of.Tie as tie
 

@@ -4,7 +4,6 @@ use mathlib.Core.List.{List}
 use mathlib.Core.Path.{_≡_, ap, sym, _∙_}
 use lib.Dec.{eqb}
 use denote.Ref.{now}
-use Rattle.record.specs.Record.{allPossible}
 use Rattle.history.specs.Booking.{booked}
 use Rattle.record.specs.declared.Record.{Record}
 use Rattle.history.specs.declared.Booking.{Booking}

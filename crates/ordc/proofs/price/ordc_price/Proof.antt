@@ -5,7 +5,6 @@ use Prim.Native.Nat.{ℕ}
 use mathlib.Core.List.{List}
 use Rattle.curve_values.specs.CurveValues.{curvesOf}
 use Rattle.curve_set.specs.declared.CurveSet.{CurveSet}
-use Rattle.adder.specs.declared.price.Pricing.{Pricing}
 use Rattle.pricing.specs.Pricing.{priced}
 use Rattle.ordc.specs.Refusal.{refusalIn}
 use Rattle.ordc.specs.Price.{pricingAnswer, pricingValues, SmallPricing}

@@ -1,7 +1,7 @@
 -- The numbers of a pricing are small, so that each fits.
 use borrow.Author.Needs.{needs, sfits-of}
 use native.Mathlib.Omega.{arith}
-use mathlib.Core.Path.{_≡_, subst}
+use mathlib.Core.Path.{subst}
 use mir.Facts.{toZ-ofZ}
 use Rattle.integer.proofs.Bounds.{abs-fits}
 use Rattle.ordc.specs.Price.{SmallPrices, SmallPricing}

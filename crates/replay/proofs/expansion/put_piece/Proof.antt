@@ -1,27 +1,33 @@
 use mathlib.Core.Path.{_≡_}
-use Prim.Native.Nat.{_-_}
+use Prim.Native.Nat.{_-_, _*_, _%_}
 use lib.ListN.{length}
 use native.Mathlib.Omega.{arith}
 use Rattle.replay.proofs.expansion.put_piece.Statement.{statement}
 use Rattle.replay.proofs.expansion.put_piece.Tie as tie
 
 abbrev Inv-loop : tie.InvT-loop
-Inv-loop text₀ at piece n end₀ i₀ text end i = length text ≡ length text₀
+Inv-loop text₀ at piece n end₀ slot₀ text end slot = length text ≡ length text₀
 
 abbrev μ-loop : tie.MeasureT-loop
-μ-loop text₀ at piece n end₀ i₀ text end i = length piece - i
+μ-loop text₀ at piece n end₀ slot₀ text end slot = 4 * (length piece % 1048577) - slot
 
 loop-holds : tie.Need-loop-holds Inv-loop μ-loop
 loop-holds c = omega arith
 
-shared-slice-read-put-piece-byte : tie.Need-shared-slice-read-put-piece-byte Inv-loop μ-loop
-shared-slice-read-put-piece-byte c = omega arith
+mul-loop : tie.Need-mul-loop Inv-loop μ-loop
+mul-loop c = omega arith
 
-put-piece-byte-requires : tie.Need-put-piece-byte-requires Inv-loop μ-loop
-put-piece-byte-requires c κs = tt
+shared-slice-read-shown : tie.Need-shared-slice-read-shown Inv-loop μ-loop
+shared-slice-read-shown c = omega arith
 
-add-i : tie.Need-add-i Inv-loop μ-loop
-add-i c = omega arith
+shown-requires : tie.Need-shown-requires Inv-loop μ-loop
+shown-requires c κs = tt
+
+put-byte-requires : tie.Need-put-byte-requires Inv-loop μ-loop
+put-byte-requires c κs = tt
+
+add-slot : tie.Need-add-slot Inv-loop μ-loop
+add-slot c = omega arith
 
 loop-less : tie.Need-loop-less Inv-loop μ-loop
 loop-less c = omega arith
@@ -42,9 +48,11 @@ put-piece-spec =
     Inv-loop
     μ-loop
     loop-holds
-    shared-slice-read-put-piece-byte
-    put-piece-byte-requires
-    add-i
+    mul-loop
+    shared-slice-read-shown
+    shown-requires
+    put-byte-requires
+    add-slot
     loop-less
     loop-again
     same-length

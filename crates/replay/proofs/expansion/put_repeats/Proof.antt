@@ -11,9 +11,6 @@ Inv-loop text₀ at piece times end₀ n₀ text end n = length text ≡ length 
 abbrev μ-loop : tie.MeasureT-loop
 μ-loop text₀ at piece times end₀ n₀ text end n = times - n
 
-returns : tie.Need-returns Inv-loop μ-loop
-returns c = tt
-
 loop-holds : tie.Need-loop-holds Inv-loop μ-loop
 loop-holds c = omega arith
 
@@ -32,8 +29,8 @@ loop-again c = omega arith
 same-length : tie.Need-same-length Inv-loop μ-loop
 same-length c = omega arith
 
-returns-2 : tie.Need-returns-2 Inv-loop μ-loop
-returns-2 c = tt
+returns : tie.Need-returns Inv-loop μ-loop
+returns c = tt
 
 pub put-repeats-spec : {M : Type 1} → statement M
 put-repeats-spec =
@@ -41,11 +38,10 @@ put-repeats-spec =
     (tie.spec
     Inv-loop
     μ-loop
-    returns
     loop-holds
     put-piece-requires
     add-n
     loop-less
     loop-again
     same-length
-    returns-2)
+    returns)

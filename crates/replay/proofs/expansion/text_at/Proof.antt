@@ -1,26 +1,21 @@
 use mathlib.Core.Path.{_≡_}
+use Prim.Native.Nat.{_-_}
 use lib.ListN.{length}
 use native.Mathlib.Omega.{arith}
 use Rattle.replay.proofs.expansion.text_at.Statement.{statement}
 use Rattle.replay.proofs.expansion.text_at.Tie as tie
 
 abbrev Inv-loop : tie.InvT-loop
-Inv-loop cases at text₀ left₀ next₀ end₀ text left next end = length text ≡ length text₀
+Inv-loop cases at text₀ done₀ left₀ text done left = length text ≡ length text₀
 
 abbrev μ-loop : tie.MeasureT-loop
-μ-loop cases at text₀ left₀ next₀ end₀ text left next end = left
+μ-loop cases at text₀ done₀ left₀ text done left = left
 
-count-at-requires : tie.Need-count-at-requires Inv-loop μ-loop
-count-at-requires c κs = tt
+number-at-requires : tie.Need-number-at-requires Inv-loop μ-loop
+number-at-requires c κs = tt
 
 loop-holds : tie.Need-loop-holds Inv-loop μ-loop
 loop-holds c = omega arith
-
-same-length : tie.Need-same-length Inv-loop μ-loop
-same-length c = omega arith
-
-returns : tie.Need-returns Inv-loop μ-loop
-returns c = tt
 
 piece-at-requires : tie.Need-piece-at-requires Inv-loop μ-loop
 piece-at-requires c κs = tt
@@ -34,11 +29,11 @@ loop-less c = omega arith
 loop-again : tie.Need-loop-again Inv-loop μ-loop
 loop-again c = omega arith
 
-same-length-2 : tie.Need-same-length-2 Inv-loop μ-loop
-same-length-2 c = omega arith
+same-length : tie.Need-same-length Inv-loop μ-loop
+same-length c = omega arith
 
-returns-2 : tie.Need-returns-2 Inv-loop μ-loop
-returns-2 c = tt
+returns : tie.Need-returns Inv-loop μ-loop
+returns c = tt
 
 pub text-at-spec : {M : Type 1} → statement M
 text-at-spec =
@@ -46,13 +41,11 @@ text-at-spec =
     (tie.spec
     Inv-loop
     μ-loop
-    count-at-requires
+    number-at-requires
     loop-holds
-    same-length
-    returns
     piece-at-requires
     sub-left
     loop-less
     loop-again
-    same-length-2
-    returns-2)
+    same-length
+    returns)

@@ -1,6 +1,6 @@
 use mathlib.Core.Path.{refl}
 use Rattle.text.specs.Bytes.{bytes}
-use Rattle.adder.specs.Sums.{headerFields}
+use Rattle.snapshot.specs.Snapshot.{headerFields}
 use Rattle.snapshot.proofs.Snapshots.{headerSchema, header-ends, header-filled}
 use Rattle.snapshot.proofs.header.header_at.Statement.{statement}
 use Rattle.snapshot.proofs.header.header_at.Tie as tie

@@ -1,7 +1,9 @@
-use Prim.Native.Nat.{_-_}
+use Prim.Native.Nat.{ℕ, _+_, _-_, _≤_, _<_}
 use native.Mathlib.Omega.{arith}
-use Rattle.sums.proofs.Parts.{within-more}
-use Rattle.snapshot.proofs.Summing.{Summing, summing-start, summing-id, summing-refused, summing-more, summing-over}
+use mathlib.Core.Path.{_∙_}
+use mir.Syntax.{w64}
+use mir.Val.{Fits}
+use Rattle.snapshot.proofs.Summing.{Summing, summing-start, summing-room, summing-within, summing-stop, summing-next, summing-over}
 use Rattle.snapshot.proofs.resources.resources_at.Statement.{statement}
 use Rattle.snapshot.proofs.resources.resources_at.Tie as tie
 
@@ -15,82 +17,66 @@ loop-holds : tie.Need-loop-holds Inv-loop μ-loop
 loop-holds c = let start = c .before .before .before .before in summing-start (start .args .text .now) (start .args .at) (start .args .count) (start .pre .0) (start .pre .1)
 
 new-id-requires : tie.Need-new-id-requires Inv-loop μ-loop
-new-id-requires c κs =
-    let inv = c .before .before .before .before .before .loop .inv in
-    let test = c .before .before .before .before .loop-test .taken in
-    let room = inv .room in
-    (inv .table, record { few = omega arith; links-room = omega arith; starts-room = omega arith; ends-room = omega arith })
+new-id-requires c κs = let turn = c .before .before .before .before in (turn .before .loop .inv .table, summing-room (turn .before .loop .inv) (turn .loop-test .taken))
 
-enum-known-l : tie.Need-enum-known-l Inv-loop μ-loop
-enum-known-l c = c .match .keys1
+with-resource-requires : tie.Need-with-resource-requires Inv-loop μ-loop
+with-resource-requires c κs = let turn = c .before .before .before .before .before .before .before .before .before .before .before in summing-within (turn .before .loop .inv) (turn .loop-test .taken)
+
+enum-known-r : tie.Need-enum-known-r Inv-loop μ-loop
+enum-known-r c = c .match .keys1
 
 enum-told : tie.Need-enum-told Inv-loop μ-loop
 enum-told c = c .match .keys2
 
-fault-of-requires : tie.Need-fault-of-requires Inv-loop μ-loop
-fault-of-requires c κs = tt
+-- the turn of the loop, seen from where the resource is read
+abbrev turn : tie.After-with-resource Inv-loop μ-loop → tie.In-loop Inv-loop μ-loop
+turn c = c .before .before .before .before .before .before .before .before .before .before .before .before
 
 same-length : tie.Need-same-length Inv-loop μ-loop
-same-length c = omega (arith, c .before .before .before .before .before .before .before .before .links .given, c .before .before .before .before .before .before .before .before .before .before .before .before .before .before .before .loop .inv .links-long)
+same-length c = let r = c .before .before in r .before .before .before .before .before .before .links .given ∙ turn r .before .loop .inv .links-long
 
 same-length-2 : tie.Need-same-length-2 Inv-loop μ-loop
-same-length-2 c = omega (arith, c .before .before .before .before .before .before .starts .given, c .before .before .before .before .before .before .before .before .before .before .before .before .before .before .before .loop .inv .starts-long)
+same-length-2 c = let r = c .before .before in r .before .before .before .before .starts .given ∙ turn r .before .loop .inv .starts-long
 
 same-length-3 : tie.Need-same-length-3 Inv-loop μ-loop
-same-length-3 c = omega (arith, c .before .before .before .before .ends .given, c .before .before .before .before .before .before .before .before .before .before .before .before .before .before .before .loop .inv .ends-long)
+same-length-3 c = let r = c .before .before in r .before .before .ends .given ∙ turn r .before .loop .inv .ends-long
 
 returns : tie.Need-returns Inv-loop μ-loop
-returns c = summing-id (c .before .before .before .before .before .before .before .before .before .before .before .before .before .before .before .loop .inv) (c .before .before .before .before .before .before .before .before .before .before .before .before .before .before .loop-test .taken) (c .before .before .before .before .before .before .before .before .before .new-id .ensures) (c .before .enum-told .given .1) (c .fault-of .ensures)
+returns c =
+    let r = c .before .before in
+    let id = r .before .before .before .before .before .before .before .new-id in
+    summing-stop (turn r .before .loop .inv) (turn r .loop-test .taken) (id .result) (r .with-resource .ensures) (id .ensures) (c .enum-told .given .1)
 
-with-resource-requires : tie.Need-with-resource-requires Inv-loop μ-loop
-with-resource-requires c κs =
-    let inv = c .before .before .before .before .before .before .before .before .before .before .before .before .before .before .before .loop .inv in
-    let test = c .before .before .before .before .before .before .before .before .before .before .before .before .before .before .loop-test .taken in
-    let room = inv .room .few in
-    within-more (omega arith) (inv .within)
-
-enum-known-r : tie.Need-enum-known-r Inv-loop μ-loop
-enum-known-r c = c .match2 .keys1
-
-enum-told-2 : tie.Need-enum-told-2 Inv-loop μ-loop
-enum-told-2 c = c .match2 .keys2
-
-same-length-4 : tie.Need-same-length-4 Inv-loop μ-loop
-same-length-4 c = omega (arith, c .before .before .before .before .before .before .before .before .before .before .before .links .given, c .before .before .before .before .before .before .before .before .before .before .before .before .before .before .before .before .before .before .loop .inv .links-long)
-
-same-length-5 : tie.Need-same-length-5 Inv-loop μ-loop
-same-length-5 c = omega (arith, c .before .before .before .before .before .before .before .before .before .starts .given, c .before .before .before .before .before .before .before .before .before .before .before .before .before .before .before .before .before .before .loop .inv .starts-long)
-
-same-length-6 : tie.Need-same-length-6 Inv-loop μ-loop
-same-length-6 c = omega (arith, c .before .before .before .before .before .before .before .ends .given, c .before .before .before .before .before .before .before .before .before .before .before .before .before .before .before .before .before .before .loop .inv .ends-long)
-
-returns-2 : tie.Need-returns-2 Inv-loop μ-loop
-returns-2 c =
-    summing-refused (c .before .before .before .before .before .before .before .before .before .before .before .before .before .before .before .before .before .before .loop .inv) (c .before .before .before .before .before .before .before .before .before .before .before .before .before .before .before .before .before .loop-test .taken) (c .before .before .before .before .before .before .before .before .before .before .before .before .new-id .ensures) (c .before .before .before .before .l .given .1) (c .before .before .with-resource .result) (c .before .before .with-resource .ensures)
-    (c .enum-told2 .given .1)
+fits : {n : ℕ} → n ≤ 4096 → Fits w64 n
+fits h = omega arith
 
 add-n : tie.Need-add-n Inv-loop μ-loop
-add-n c = let test = c .before .before .before .before .before .before .before .before .before .before .before .before .before .before .before .before .before .before .loop-test .taken in let few = c .before .before .before .before .before .before .before .before .before .before .before .before .before .before .before .before .before .before .before .loop .inv .room .few in omega arith
+add-n c = let at = turn (c .before .before .before) in fits (summing-room (at .before .loop .inv) (at .loop-test .taken) .few)
+
+fewer : {n count : ℕ} → n < count → count - (n + 1) < count - n
+fewer h = omega arith
 
 loop-less : tie.Need-loop-less Inv-loop μ-loop
-loop-less c = let test = c .before .before .before .before .before .before .before .before .before .before .before .before .before .before .before .before .before .before .loop-test .taken in omega arith
+loop-less c = fewer (turn (c .before .before .before) .loop-test .taken)
 
 loop-again : tie.Need-loop-again Inv-loop μ-loop
 loop-again c =
-    summing-more (c .before .before .before .before .before .before .before .before .before .before .before .before .before .before .before .before .before .before .before .loop .inv) (c .before .before .before .before .before .before .before .before .before .before .before .before .before .before .before .before .before .before .loop-test .taken) (c .before .before .before .before .before .before .before .before .before .before .before .before .before .new-id .ensures) (c .before .before .before .before .before .l .given .1) (c .before .before .before .with-resource .result) (c .before .before .before .with-resource .ensures) (c .before .r .given .1)
-    (omega (arith, c .before .before .before .before .before .before .before .before .before .before .before .before .links .given)) (omega (arith, c .before .before .before .before .before .before .before .before .before .before .starts .given)) (omega (arith, c .before .before .before .before .before .before .before .before .ends .given))
+    let r = c .before .before .before in
+    let id = r .before .before .before .before .before .before .before .new-id in
+    summing-next (turn r .before .loop .inv) (turn r .loop-test .taken) (id .result) (r .with-resource .ensures) (id .ensures) (c .before .r .given .1)
+    (r .before .before .before .before .before .before .links .given) (r .before .before .before .before .starts .given) (r .before .before .ends .given)
 
-same-length-7 : tie.Need-same-length-7 Inv-loop μ-loop
-same-length-7 c = c .before .loop .inv .links-long
+same-length-4 : tie.Need-same-length-4 Inv-loop μ-loop
+same-length-4 c = c .before .loop .inv .links-long
 
-same-length-8 : tie.Need-same-length-8 Inv-loop μ-loop
-same-length-8 c = c .before .loop .inv .starts-long
+same-length-5 : tie.Need-same-length-5 Inv-loop μ-loop
+same-length-5 c = c .before .loop .inv .starts-long
 
-same-length-9 : tie.Need-same-length-9 Inv-loop μ-loop
-same-length-9 c = c .before .loop .inv .ends-long
+same-length-6 : tie.Need-same-length-6 Inv-loop μ-loop
+same-length-6 c = c .before .loop .inv .ends-long
 
-returns-3 : tie.Need-returns-3 Inv-loop μ-loop
-returns-3 c = summing-over (c .before .loop .inv) (c .loop-test .left)
+returns-2 : tie.Need-returns-2 Inv-loop μ-loop
+returns-2 c = summing-over (c .before .loop .inv) (c .loop-test .left)
 
 pub resources-at-spec : {M : Type 1} → statement M
 resources-at-spec =
@@ -100,24 +86,17 @@ resources-at-spec =
     μ-loop
     loop-holds
     new-id-requires
-    enum-known-l
+    with-resource-requires
+    enum-known-r
     enum-told
-    fault-of-requires
     same-length
     same-length-2
     same-length-3
     returns
-    with-resource-requires
-    enum-known-r
-    enum-told-2
-    same-length-4
-    same-length-5
-    same-length-6
-    returns-2
     add-n
     loop-less
     loop-again
-    same-length-7
-    same-length-8
-    same-length-9
-    returns-3)
+    same-length-4
+    same-length-5
+    same-length-6
+    returns-2)

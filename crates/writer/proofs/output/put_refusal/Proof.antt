@@ -10,10 +10,6 @@ use native.Mathlib.Omega.{arith}
 use borrow.Author.Needs.{needs}
 use Rattle.writer.proofs.output.put_refusal.Statement.{statement}
 use Rattle.writer.proofs.output.put_refusal.Tie as tie
-use Rattle.writer.proofs.output.put_refusal.Reads as reads
-use Rattle.writer.proofs.output.put_refusal.Lts as lts
-use Rattle.writer.proofs.output.put_natural.Reads as put-natural-reads
-use Rattle.writer.proofs.put_bytes.Reads as put-bytes-reads
 
 slice-aggregate-put-natural : tie.Need-slice-aggregate-put-natural
 slice-aggregate-put-natural c = search needs

@@ -9,10 +9,6 @@ use native.Mathlib.Omega.{arith}
 use borrow.Author.Needs.{needs}
 use Rattle.writer.proofs.output.write_refusal.Statement.{statement}
 use Rattle.writer.proofs.output.write_refusal.Tie as tie
-use Rattle.writer.proofs.output.write_refusal.Reads as reads
-use Rattle.writer.proofs.output.write_refusal.Lts as lts
-use Rattle.writer.proofs.digit_count.Reads as digit-count-reads
-use Rattle.writer.proofs.output.put_refusal.Reads as put-refusal-reads
 
 digit-count-requires : tie.Need-digit-count-requires
 digit-count-requires c κs = search needs

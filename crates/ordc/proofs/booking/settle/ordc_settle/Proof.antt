@@ -4,7 +4,7 @@ use denote.Ref.{now}
 use mir.Facts.{toZ-ofZ}
 use Rattle.curve_values.specs.CurveValues.{curveValues}
 use Rattle.curve_set.specs.declared.Curves.{Curves}
-use Rattle.record.specs.Settle.{settled}
+use Rattle.settling.specs.Settle.{settled}
 use Rattle.ordc.specs.Refusal.{refusalIn}
 use Rattle.ordc.specs.Record.{recordOf}
 use Rattle.ordc.proofs.Answered.{lent-laid, lent-left}

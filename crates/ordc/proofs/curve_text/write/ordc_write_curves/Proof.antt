@@ -1,12 +1,10 @@
 -- The calls chain to the writing; the length is laid where the number is 0, and the buffer is as the writing leaves it.
 use borrow.Author.Needs.{needs}
-use native.Mathlib.Omega.{arith}
 use mathlib.Core.Path.{_≡_, ap, _∙_}
 use denote.Ref.{now}
 use Rattle.curve_values.specs.CurveValues.{curvesOf}
-use Rattle.curve.specs.CurveText.{writingCurves, writtenBuffer, CurvesWritten}
+use Rattle.curve.specs.CurveText.{writingCurves, CurvesWritten}
 use Rattle.curve_set.specs.declared.CurveSet.{CurveSet}
-use Rattle.curve.specs.declared.WrittenCurves.{WrittenCurves}
 use Rattle.ordc.specs.Refusal.{refusalIn}
 use Rattle.ordc.specs.CurveText.{writingAnswer, writtenLength}
 use Rattle.ordc.proofs.Answered.{lent-laid, lent-left}

@@ -1,20 +1,25 @@
+use mathlib.Core.Path.{sym}
 use borrow.Author.Tests.{eq-eqb, ne-eqb}
+use Rattle.stream.proofs.Taking.{no-bytes, line-start}
 use native.Mathlib.Omega.{arith}
-use borrow.Author.Needs.{needs}
 use Rattle.stream_input.proofs.taken.byte.ends_hour.Statement.{statement}
 use Rattle.stream_input.proofs.taken.byte.ends_hour.Tie as tie
-use Rattle.stream_input.proofs.taken.byte.ends_hour.Reads as reads
-use Rattle.stream_input.proofs.taken.byte.ends_hour.Lts as lts
-use Rattle.stream_input.proofs.taken.byte.starts_line.Reads as starts-line-reads
 
 returns : tie.Need-returns
-returns c = rw (ne-eqb (c .before .before .args .byte) 10 (c .if1 .taken))
-
-starts-line-requires : tie.Need-starts-line-requires
-starts-line-requires c κs = search needs
+returns c = rw (ne-eqb (c .before .args .byte) 10 (c .if1 .taken))
 
 returns-2 : tie.Need-returns-2
-returns-2 c = rw (eq-eqb (c .before .before .before .args .byte) 10 (c .before .if1 .left)) (c .starts-line .ensures)
+returns-2 c = let s = c .before .before in rw (eq-eqb (s .args .byte) 10 (c .before .if1 .left)) (sym (no-bytes (s .args .hour .now) (c .if2 .taken)))
+
+sub-result : tie.Need-sub-result
+sub-result c = omega arith
+
+shared-slice-read-result : tie.Need-shared-slice-read-result
+shared-slice-read-result c = omega arith
+
+returns-3 : tie.Need-returns-3
+returns-3 c = let s = c .before .before .before in rw (eq-eqb (s .args .byte) 10 (c .before .before .if1 .left)) (sym (line-start (s .args .hour .now) (omega arith)))
 
 pub ends-hour-spec : {M : Type 1} → statement M
-ends-hour-spec = tie.close (tie.spec returns starts-line-requires returns-2)
+ends-hour-spec =
+    tie.close (tie.spec returns returns-2 sub-result shared-slice-read-result returns-3)

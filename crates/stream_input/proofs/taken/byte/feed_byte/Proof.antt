@@ -8,26 +8,26 @@ use Rattle.stream_input.proofs.taken.byte.feed_byte.Tie as tie
 enum-told : tie.Need-enum-told
 enum-told c = c .match .keys1
 
-voll-byte-requires : tie.Need-voll-byte-requires
-voll-byte-requires c κs = (c .before .before .before .before .pre, c .before .enum-told .given .1)
+line-byte-requires : tie.Need-line-byte-requires
+line-byte-requires c κs = (c .before .before .before .before .pre, ((omega arith, omega arith), c .before .enum-told .given .1))
 
 same-length : tie.Need-same-length
 same-length c = search needs
 
 returns : tie.Need-returns
-returns c = c .before .before .voll-byte .ensures
+returns c = c .before .before .line-byte .ensures
 
 enum-told-2 : tie.Need-enum-told-2
 enum-told-2 c = c .match .keys2
 
-floor-byte-requires : tie.Need-floor-byte-requires
-floor-byte-requires c κs = (c .before .before .before .before .pre, c .before .enum-told2 .given .1)
+line-byte-requires-2 : tie.Need-line-byte-requires-2
+line-byte-requires-2 c κs = (c .before .before .before .before .pre, ((omega arith, omega arith), c .before .enum-told2 .given .1))
 
 same-length-2 : tie.Need-same-length-2
 same-length-2 c = search needs
 
 returns-2 : tie.Need-returns-2
-returns-2 c = c .before .before .floor-byte .ensures
+returns-2 c = c .before .before .line-byte2 .ensures
 
 enum-told-3 : tie.Need-enum-told-3
 enum-told-3 c = c .match .keys3
@@ -64,11 +64,11 @@ feed-byte-spec =
     tie.close
     (tie.spec
     enum-told
-    voll-byte-requires
+    line-byte-requires
     same-length
     returns
     enum-told-2
-    floor-byte-requires
+    line-byte-requires-2
     same-length-2
     returns-2
     enum-told-3

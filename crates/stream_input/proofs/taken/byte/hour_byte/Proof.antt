@@ -1,18 +1,16 @@
 use mathlib.Core.Path.{refl, sym}
+use native.Mathlib.Nat.{sub-zero}
+use Rattle.stream.proofs.OneByte.{hour-end, hour-full, hour-more}
 use native.Mathlib.Omega.{arith}
 use borrow.Author.Needs.{needs}
-use Rattle.stream.proofs.OneByte.{hour-end, hour-full, hour-more}
 use Rattle.stream_input.proofs.taken.byte.hour_byte.Statement.{statement}
 use Rattle.stream_input.proofs.taken.byte.hour_byte.Tie as tie
 
-front-requires : tie.Need-front-requires
-front-requires c κs = tt
+part-requires : tie.Need-part-requires
+part-requires c κs = tt
 
 ends-hour-requires : tie.Need-ends-hour-requires
 ends-hour-requires c κs = tt
-
-book-requires : tie.Need-book-requires
-book-requires c κs = tt
 
 hour-taken-requires : tie.Need-hour-taken-requires
 hour-taken-requires c κs = tt
@@ -22,11 +20,12 @@ same-length c = search needs
 
 returns : tie.Need-returns
 returns c =
-    let s = c .before .before .before .before .before .before .before in
-    let ends = c .before .before .before in
+    let e = c .before .before in
+    let s = e .before .before .before .before in
+    let hour = e .before .part .ensures in
     hour-end (s .args .stream) (s .args .buffer .now) (s .args .byte) (s .pre .0) (s .pre .1) (c .hour-taken .result)
-    (rw (ends .before .front .ensures, c .before .before .if1 .taken) at (sym (ends .ends-hour .ensures)))
-    (rw (c .before .book .ensures, ends .before .front .ensures) at (c .hour-taken .ensures))
+    (rw (hour, sub-zero (s .args .stream .held), c .before .if1 .taken) at (sym (e .ends-hour .ensures)))
+    (rw (hour, sub-zero (s .args .stream .held)) at (c .hour-taken .ensures))
 
 hour-too-long-requires : tie.Need-hour-too-long-requires
 hour-too-long-requires c κs = tt
@@ -36,37 +35,35 @@ same-length-2 c = search needs
 
 returns-2 : tie.Need-returns-2
 returns-2 c =
-    let s = c .before .before .before .before .before .before .before in
-    let ends = c .before .before .before in
+    let e = c .before .before .before in
+    let s = e .before .before .before .before in
     hour-full (s .args .stream) (s .args .buffer .now) (s .args .byte) (s .pre .0) (s .pre .1) (c .hour-too-long .result)
-    (rw (ends .before .front .ensures, c .before .before .if1 .left) at (sym (ends .ends-hour .ensures))) (c .before .if2 .taken) (c .hour-too-long .ensures)
+    (rw (e .before .part .ensures, sub-zero (s .args .stream .held), c .before .before .if1 .left) at (sym (e .ends-hour .ensures)))
+    (c .before .if2 .taken) (c .hour-too-long .ensures)
 
 slice-write-buffer : tie.Need-slice-write-buffer
 slice-write-buffer c = omega arith
 
-add-at-stage : tie.Need-add-at-stage
-add-at-stage c = omega arith
-
-at-stage-requires : tie.Need-at-stage-requires
-at-stage-requires c κs = tt
+add-stream : tie.Need-add-stream
+add-stream c = omega arith
 
 same-length-3 : tie.Need-same-length-3
 same-length-3 c = search needs
 
 returns-3 : tie.Need-returns-3
 returns-3 c =
-    let s = c .before .before .before .before .before .before .before in
-    let ends = c .before .before .before in
-    hour-more (s .args .stream) (s .args .buffer .now) (s .args .byte) (s .pre .0) (s .pre .1) (c .at-stage .result)
-    (rw (ends .before .front .ensures, c .before .before .if1 .left) at (sym (ends .ends-hour .ensures))) (omega arith) (c .at-stage .ensures)
+    let e = c .before .before in
+    let s = e .before .before .before .before in
+    hour-more (s .args .stream) (s .args .buffer .now) (s .args .byte) (s .pre .0) (s .pre .1) _
+    (rw (e .before .part .ensures, sub-zero (s .args .stream .held), c .before .if1 .left) at (sym (e .ends-hour .ensures)))
+    (omega arith) (rw (s .pre .1) refl)
 
 pub hour-byte-spec : {M : Type 1} → statement M
 hour-byte-spec =
     tie.close
     (tie.spec
-    front-requires
+    part-requires
     ends-hour-requires
-    book-requires
     hour-taken-requires
     same-length
     returns
@@ -74,7 +71,6 @@ hour-byte-spec =
     same-length-2
     returns-2
     slice-write-buffer
-    add-at-stage
-    at-stage-requires
+    add-stream
     same-length-3
     returns-3)

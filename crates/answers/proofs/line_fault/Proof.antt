@@ -1,0 +1,21 @@
+-- Each case of the line computes.
+use Rattle.answers.proofs.line_fault.Statement.{statement}
+use Rattle.answers.proofs.line_fault.Tie as tie
+
+enum-known-line : tie.Need-enum-known-line
+enum-known-line c = c .match .keys1
+
+enum-known-line-2 : tie.Need-enum-known-line-2
+enum-known-line-2 c = c .match .keys2
+
+accepted-requires : tie.Need-accepted-requires
+accepted-requires c κs = tt
+
+returns : tie.Need-returns
+returns c = rw (c .before .line .given .1)
+
+returns-2 : tie.Need-returns-2
+returns-2 c = rw (c .before .before .line2 .given .1) (c .accepted .ensures)
+
+pub line-fault-spec : {M : Type 1} → statement M
+line-fault-spec = tie.close (tie.spec enum-known-line enum-known-line-2 accepted-requires returns returns-2)

@@ -1,0 +1,114 @@
+// What the readers of a text answer, and the fault that an answer carries: each answer is taken apart by `let .. else`, and the fault of a refused one is
+// handed on.
+ghost use mathlib.Core.Path.{_≡_};
+ghost use Rattle.answers.specs.Answers.{accepted, lineFault, numberFault, wordFault, blockFault, endAt, endFault};
+use text::refusal::Fault;
+
+// What the line reader finds at a position.
+pub enum Line {
+    // The value stands from start to end; the next line starts at next.
+    Value {
+        start: usize,
+        end: usize,
+        next: usize,
+    },
+    Refused(Fault),
+}
+
+// A line read as a number, and where the next line starts.
+pub enum NumberLine {
+    Value { value: i64, next: usize },
+    Refused(Fault),
+}
+
+// A line read as one of the listed words: which one, and where the next line starts.
+pub enum WordLine {
+    Index { index: usize, next: usize },
+    Refused(Fault),
+}
+
+// How reading a block ended: every line was read and the next one starts at next, or a line was refused.
+pub enum Block {
+    Read { next: usize },
+    Refused(Fault),
+}
+
+// What follows the last due line.
+pub enum End {
+    Reached,
+    Refused(Fault),
+}
+
+// No fault: the number 0, and where reading goes on.
+fn accepted(next: usize) -> Fault
+    ensures { λ r. ⌜ r ≡ accepted next ⌝ }
+{
+    Fault {
+        number: 0,
+        at: next,
+    }
+}
+
+// The fault of a refused line.
+pub fn line_fault(line: Line) -> Fault
+    ensures { λ r. ⌜ r ≡ lineFault line ⌝ }
+{
+    match line {
+        Line::Refused(fault) => fault,
+        Line::Value {
+            start: _,
+            end: _,
+            next,
+        } => accepted(next),
+    }
+}
+
+// The fault of a refused number.
+pub fn number_fault(line: NumberLine) -> Fault
+    ensures { λ r. ⌜ r ≡ numberFault line ⌝ }
+{
+    match line {
+        NumberLine::Refused(fault) => fault,
+        NumberLine::Value { value: _, next } => accepted(next),
+    }
+}
+
+// The fault of a refused word.
+pub fn word_fault(line: WordLine) -> Fault
+    ensures { λ r. ⌜ r ≡ wordFault line ⌝ }
+{
+    match line {
+        WordLine::Refused(fault) => fault,
+        WordLine::Index { index: _, next } => accepted(next),
+    }
+}
+
+// The fault of a refused block.
+pub fn block_fault(block: Block) -> Fault
+    ensures { λ r. ⌜ r ≡ blockFault block ⌝ }
+{
+    match block {
+        Block::Refused(fault) => fault,
+        Block::Read { next } => accepted(next),
+    }
+}
+
+// The end of a text: bytes after the last due line are refused by 9.
+pub fn end_at(text: &[u8], at: usize) -> End
+    ensures { λ r. ⌜ r ≡ endAt (now (text .entry)) at ⌝ }
+{
+    if at < text.len() {
+        return End::Refused(Fault { number: 9, at });
+    }
+    End::Reached
+}
+
+// The fault of bytes after the last due line.
+pub fn end_fault(end: End) -> Fault
+    ensures { λ r. ⌜ r ≡ endFault end ⌝ }
+{
+    match end {
+        End::Refused(fault) => fault,
+        End::Reached => accepted(0),
+    }
+}

@@ -1,0 +1,25 @@
+-- All known values hold together.
+use mathlib.Core.Path.{_≡_, refl, sym, ap, ap₂, _∙_}
+use mathlib.Core.List.{List, [], _∷_, _++_, map}
+use lib.IntN.{ℤ}
+use Rattle.known.specs.Statement.{AllHold}
+use Rattle.known.specs.Probability.{tableValues}
+use Rattle.known.specs.Settling.{settledValues}
+use Rattle.known.specs.Pricing.{pricedValues}
+use Rattle.known.specs.Known.{allKnownValues}
+use Rattle.known.proofs.Probability.{table-values}
+use Rattle.known.proofs.Settling.{settled-values}
+use Rattle.known.proofs.Pricing.{priced-values}
+
+map-append : {A B : Type 0} (f : A → B) (xs ys : List A) → map f (xs ++ ys) ≡ map f xs ++ map f ys
+map-append f [] ys = refl
+map-append f (x ∷ xs) ys = ap (_∷_ (f x)) (map-append f xs ys)
+
+-- two lists that hold make one
+all-append : (first second : List (List ℤ × List ℤ)) → AllHold first → AllHold second → AllHold (first ++ second)
+all-append first second e f = map-append _ first second ∙ ap₂ _++_ e f ∙ sym (map-append _ first second)
+
+pub all-known-values : AllHold allKnownValues
+all-known-values =
+    all-append tableValues (settledValues ++ pricedValues) table-values
+    (all-append settledValues pricedValues settled-values priced-values)

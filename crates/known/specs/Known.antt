@@ -1,0 +1,9 @@
+-- Document 01, "Known values": all of them in one list.
+use mathlib.Core.List.{List, _++_}
+use lib.IntN.{ℤ}
+use Rattle.known.specs.Probability.{tableValues}
+use Rattle.known.specs.Settling.{settledValues}
+use Rattle.known.specs.Pricing.{pricedValues}
+
+abbrev pub allKnownValues : List (List ℤ × List ℤ)
+allKnownValues = tableValues ++ (settledValues ++ pricedValues)

@@ -1,0 +1,2 @@
+// No code: the known values of document 01, computed together, and two lists of bookings on which a price falls as demand 3 says. They stand apart from the
+// crates whose definitions they compute, so that no edit of those computes them again.

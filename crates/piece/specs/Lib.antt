@@ -1,0 +1,2 @@
+-- Parts and pieces of a byte string.
+pub mod Piece

@@ -1,0 +1,2 @@
+-- The sum of squares around a number.
+pub mod Quadratic

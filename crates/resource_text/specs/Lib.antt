@@ -1,0 +1,2 @@
+-- Document 01, "Snapshot to reserves": the text of one resource, its kind and its fields.
+pub mod Resource

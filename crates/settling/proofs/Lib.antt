@@ -1,0 +1,3 @@
+-- Laws that the proofs of several functions share, and that crates above cite; the proofs of the named statements of specs/Promises.antt.
+pub mod PossibleGroups
+pub mod Range

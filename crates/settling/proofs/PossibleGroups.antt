@@ -1,0 +1,105 @@
+-- What a group that is not impossible (1) has: small numbers, and squares around any x that are not negative.
+use mathlib.Core.Path.{_≡_, refl, _∙_}
+use mathlib.Core.Bool.{Bool, true, false, _&&_, _||_, or-true}
+use mathlib.Core.List.{List, [], _∷_}
+use Prim.Native.Nat.{ℕ, zero, suc, _+_, _*_, _≤_, _<_}
+use native.Mathlib.Numerals.{add-one}
+use native.Mathlib.Omega.{arith}
+use borrow.Author.Tests.{leb-true, le-leb, eqb-true, eqb-false}
+use lib.Dec.{eqb}
+use lib.IntN.{ℤ, pos, natAbs, _+ℤ_}
+use lib.ListN.{length, getD, drop, drop-of-length-le}
+use lib.Seq.{drop-cons}
+use lib.Signed.{_≤ℤ_}
+use Rattle.integer.specs.Floor.{floorDiv}
+use Rattle.quadratic.specs.Quadratic.{quadratic}
+use Rattle.integer.proofs.Difference.{view, toℕ}
+use Rattle.integer.proofs.Order.{leZ-true, le-leZ}
+use Rattle.integer.proofs.Floor.{floor-low, floor-high}
+use Rattle.quadratic.proofs.Quadratic.{quadratic-nonneg}
+use Rattle.record.specs.declared.Group.{Group}
+use Rattle.record.specs.Record.{noHours}
+use Rattle.settling.specs.Possible.{meanOf, squaresAround, notNegative, SmallGroup, possible, allPossible}
+
+pub and-split : (a b : Bool) → a && b ≡ true → (a ≡ true) × (b ≡ true)
+and-split true b e = (refl, e)
+and-split false b e = (e, cc)
+
+pub squares-bound : (g : Group) → SmallGroup g → natAbs (g .squares) ≤ g .count * 400000000000000
+squares-bound g small = go (g .squares) (g .count * 400000000000000) (small .low) (small .high)
+  where
+    go : (z : ℤ) (b : ℕ) → pos 0 ≤ℤ z → z ≤ℤ pos b → natAbs z ≤ b
+    go z b = rw (view z) (simp toℕ (omega arith))
+
+pub record Possible (g : Group) : Type 0 where
+  pub small : SmallGroup g
+  pub around : (x : ℤ) → pos 0 ≤ℤ squaresAround g x
+
+-- the two tests of a group that has hours
+abbrev pub tests : Group → Bool
+tests g = notNegative (squaresAround g (meanOf g)) && notNegative (squaresAround g (meanOf g +ℤ pos 1))
+
+-- of a small group the rest of the test is left
+pub small-possible : (g : Group) → SmallGroup g → possible g ≡ eqb (g .count) 0 || tests g
+unfolding possible
+small-possible g small =
+    rw (le-leb (g .count) 1000 (small .count), le-leb (natAbs (g .sum)) (g .count * 20000000) (small .sum), le-leZ (small .low), le-leZ (small .high))
+
+-- the two tests next to the mean are enough for every x
+pub tests-all : (g : Group) → 0 < g .count → tests g ≡ true → (x : ℤ) → pos 0 ≤ℤ squaresAround g x
+unfolding squaresAround meanOf
+tests-all g some e =
+    let parts = and-split (notNegative (squaresAround g (meanOf g))) (notNegative (squaresAround g (meanOf g +ℤ pos 1))) e in
+    quadratic-nonneg (g .sum) (g .squares) (pos (g .count)) (floorDiv (g .sum) (g .count)) (floor-low (g .sum) (g .count) some)
+    (floor-high (g .sum) (g .count) some) (leZ-true _ _ (parts .0)) (leZ-true _ _ (parts .1))
+
+-- a group of no hours has no squares
+none-around : (g : Group) → SmallGroup g → g .count ≡ 0 → (x : ℤ) → pos 0 ≤ℤ squaresAround g x
+unfolding squaresAround quadratic
+none-around g small none x = rw (none, zero (g .sum) (omega (arith, small .sum)), nothing (g .squares) x) (small .low)
+  where
+    zero : (s : ℤ) → natAbs s ≤ 0 → s ≡ pos 0
+    zero s = rw (view s) (simp toℕ (omega arith))
+
+    nothing : (q x : ℤ) → quadratic (pos 0) q (pos 0) x ≡ q
+    nothing q x = rw (view q, view x) (simp toℕ (omega arith))
+
+pub possible-is : (g : Group) → possible g ≡ true → Possible g
+unfolding possible
+possible-is g e =
+    let p1 = and-split _ _ e in
+    let p2 = and-split _ _ (p1 .1) in
+    let p3 = and-split _ _ (p2 .1) in
+    let p4 = and-split _ _ (p3 .1) in
+    let small : SmallGroup g = record { count = leb-true _ _ (p1 .0); sum = leb-true _ _ (p2 .0); low = leZ-true _ _ (p3 .0); high = leZ-true _ _ (p4 .0) } in
+    record { small = small; around = go small (eqb (g .count) 0) refl (p4 .1) }
+  where
+    go : SmallGroup g → (none : Bool) → eqb (g .count) 0 ≡ none → none || tests g ≡ true → (x : ℤ) → pos 0 ≤ℤ squaresAround g x
+    go small true n e = none-around g small (eqb-true (g .count) 0 n)
+    go small false n e = tests-all g (omega (arith, eqb-false (g .count) 0 n)) e
+
+pub is-possible : (g : Group) → Possible g → possible g ≡ true
+is-possible g p = small-possible g (p .small) ∙ rw (le-leZ (p .around (meanOf g)), le-leZ (p .around (meanOf g +ℤ pos 1)), or-true (eqb (g .count) 0))
+
+-- ---- a record's groups
+
+-- a group of no hours is possible
+pub none-possible : possible noHours ≡ true
+unfolding possible
+none-possible = refl
+
+-- past the end of a list stands a group of no hours
+pub possible-at : (groups : List Group) → allPossible groups ≡ true → (i : ℕ) → possible (getD groups i noHours) ≡ true
+unfolding allPossible
+possible-at [] e i = none-possible
+possible-at (g ∷ groups) e zero = and-split (possible g) (allPossible groups) e .0
+possible-at (g ∷ groups) e (suc i) = possible-at groups (and-split (possible g) (allPossible groups) e .1) i
+
+pub possible-step : (groups : List Group) (i : ℕ) → i < length groups
+    → allPossible (drop i groups) ≡ possible (getD groups i noHours) && allPossible (drop (i + 1) groups)
+unfolding allPossible
+possible-step groups i h = rw (add-one, drop-cons groups i noHours)
+
+pub possible-end : (groups : List Group) (i : ℕ) → length groups ≤ i → allPossible (drop i groups) ≡ true
+unfolding allPossible
+possible-end groups i h = rw (drop-of-length-le groups h)

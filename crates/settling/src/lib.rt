@@ -1,0 +1,86 @@
+// Settling: the mean and the spread of each group's errors, as a curve set.
+pub mod possible;
+
+ghost use mathlib.Core.Path.{_≡_};
+ghost use mathlib.Core.Bool.{true};
+ghost use Prim.Native.Nat.{_≤_};
+ghost use Rattle.settling.specs.Possible.{possible, allPossible};
+ghost use Rattle.curve_set.specs.Curves.{within};
+ghost use Rattle.settling.specs.Settle.{pairOf, settledCurves, settled};
+use crate::possible::all_possible;
+use crate::possible::squares_around;
+use curve_set::CurveSet;
+use curve_set::Curves;
+use curve_set::Pair;
+use curve_set::answer::Answer;
+use curve_set::refused_curves;
+use integer::floor_div;
+use integer::root;
+use record::Group;
+use record::Record;
+
+// The mean and the spread of a group that has hours.
+fn pair_of(g: Group) -> Pair
+    requires { ⌜ possible g ≡ true ⌝ }
+    requires { ⌜ 1 ≤ g .count ⌝ }
+    ensures { λ r. ⌜ r ≡ pairOf g ⌝ }
+{
+    let mean = floor_div(g.sum, g.count);
+    let v = squares_around(g, mean);
+    let spread = root(floor_div(v, g.count) as u64);
+    Pair {
+        mean,
+        spread: spread as i64,
+    }
+}
+
+// Whether a number is in a range.
+fn is_within(z: i64, low: i64, high: i64) -> bool
+    ensures { λ r. ⌜ r ≡ within low high z ⌝ }
+{
+    if z < low {
+        return false;
+    }
+    z <= high
+}
+
+// The curves of a record's groups, or the first faulty group: 12 for fewer than 2 hours, then 13 for a spread of 0.
+fn settle_groups(history: Record, voll: i64, floor: i64) -> Curves
+    requires { ⌜ allPossible (history .groups) ≡ true ⌝ }
+    ensures { λ r. ⌜ r ≡ settledCurves history voll floor ⌝ }
+{
+    let mut pairs = [Pair { mean: 0, spread: 0 }; 24];
+    let mut i: usize = 0;
+    while i < 24 {
+        let g = history.groups[i];
+        if g.count < 2 {
+            return refused_curves(12, i);
+        }
+        let pair = pair_of(g);
+        if pair.spread == 0 {
+            return refused_curves(13, i);
+        }
+        pairs[i] = pair;
+        i += 1;
+    }
+    Curves {
+        set: CurveSet { voll, floor, pairs },
+        answer: Answer::Accepted,
+    }
+}
+
+// The curves of a record, with VOLL in cents per MWh and the minimum contingency level X in kW.
+pub fn settle(history: Record, voll: i64, floor: i64) -> Curves
+    ensures { λ r. ⌜ r ≡ settled history voll floor ⌝ }
+{
+    if !all_possible(history) {
+        return refused_curves(1, 0);
+    }
+    if !is_within(voll, 0, 2000000) {
+        return refused_curves(7, 0);
+    }
+    if !is_within(floor, 0, 20000000) {
+        return refused_curves(7, 0);
+    }
+    settle_groups(history, voll, floor)
+}
