@@ -19,6 +19,19 @@ def run(command, data):
     return done.stdout
 
 
+def run_each(reference, program, inputs):
+    """What the second implementation prints for each of many inputs, in one run."""
+    written = run([reference, "each", program], b"".join(len(data).to_bytes(8, "little") + data for data in inputs))
+    outputs, at = [], 0
+    while at < len(written):
+        end = at + 8 + int.from_bytes(written[at : at + 8], "little")
+        outputs.append(written[at + 8 : end])
+        at = end
+    if len(outputs) != len(inputs):
+        sys.exit(f"{reference} each {program}: {len(outputs)} outputs for {len(inputs)} inputs")
+    return outputs
+
+
 def peak(command, data):
     """Peak memory in KiB of the program itself, read while it waits for more input: a wrapper's own memory would hide it."""
     process = subprocess.Popen([command], stdin=subprocess.PIPE, stdout=subprocess.DEVNULL)
@@ -45,14 +58,14 @@ def hour(month, clock, runs, rng):
     return "\n".join(lines) + "\n"
 
 
-def history(each, runs, rng):
-    """`each` hours in every group, as the program reads them."""
+def history(each, runs, rng, times=1):
+    """`each` hours in every group, as the program reads them, all of them so many times."""
     hours = []
     for season in ((12, 1, 2), (3, 4, 5), (6, 7, 8), (9, 10, 11)):
         for block in range(6):
             hours += [hour(rng.choice(season), 4 * block + rng.randrange(4), runs, rng) for _ in range(each)]
     rng.shuffle(hours)
-    return ("voll=900000\nfloor=2000000\n" + "\n".join(hours)).encode()
+    return ("voll=900000\nfloor=2000000\n" + "\n".join(hours * times)).encode()
 
 
 def curve_inputs(rng):
@@ -124,27 +137,28 @@ def main():
         if not os.path.exists(command):
             sys.exit(f"{command} is not built")
 
-        def compare(case):
-            name, data = case
-            ours, theirs = run([command], data), run([reference, program], data)
-            return None if ours == theirs else f"{program}: {name}: {ours!r} and not {theirs!r}"
+        def compare(cases):
+            theirs = run_each(reference, program, [data for _, data in cases])
+            ours = [run([command], data) for _, data in cases]
+            return [f"{program}: {name}: {one!r} and not {other!r}" for (name, _), one, other in zip(cases, ours, theirs) if one != other]
 
+        cases = list(inputs(rng))
+        count += len(cases)
         with ThreadPoolExecutor(max_workers=2) as pool:
-            for difference in pool.map(compare, inputs(rng)):
-                count += 1
-                if difference:
-                    wrong += 1
-                    print(difference)
-    # A year and more of hours in constant memory: the peak may not grow with the input.
+            for differences in pool.map(compare, (cases[i : i + 200] for i in range(0, len(cases), 200))):
+                wrong += len(differences)
+                print("".join(line + "\n" for line in differences), end="")
+    # A year and more of hours in constant memory: the peak may not grow with the input, whose size differs by 35 MB. The system counts pages in
+    # steps of some hundred KiB.
     curves = os.path.join(directory, "curves")
-    small, large = history(2, 12, rng), history(1000, 12, rng)
+    small, large = history(2, 12, rng), history(50, 12, rng, times=20)
     peaks = [peak(curves, data) for data in (small, large)]
     if run([curves], large) != run([reference, "curves"], large):
         wrong += 1
         print("curves: 24000 hours: the outputs differ")
     count += 1
     print(f"curves on 48 hours and on 24000 hours ({len(large)} bytes): peak memory {peaks[0]} and {peaks[1]} KiB")
-    if peaks[1] > peaks[0] + 256:
+    if peaks[1] > peaks[0] + 1024:
         wrong += 1
         print("curves: peak memory grows with the input")
     print(f"programs: {count - wrong} of {count} inputs agree with the second implementation")
