@@ -1,4 +1,4 @@
--- `text::block::read_block` meets its contract. The invariant: the values so far stand in the first places, and reading the whole schema gives them and
+-- `block::read_block` meets its contract. The invariant: the values so far stand in the first places, and reading the whole schema gives them and
 -- then what the lines that are left give. The measure is how many places are left.
 use borrow.Author.Needs.{sfits-of}
 use Prim.Native.Nat.{_-_}

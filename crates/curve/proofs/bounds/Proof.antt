@@ -1,4 +1,4 @@
--- `curve::curve_text::bounds` meets its contract.
+-- `curve::bounds` meets its contract.
 use mathlib.Core.Path.{_∙_}
 use mir.Facts.{toZ-ofZ}
 use Rattle.curve.proofs.bounds.Statement.{statement}

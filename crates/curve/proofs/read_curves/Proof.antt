@@ -1,4 +1,4 @@
--- `curve::curve_text::read_curves` meets its contract: too long, a refused line, bytes after the last one, or a curve set.
+-- `curve::read_curves` meets its contract: too long, a refused line, bytes after the last one, or a curve set.
 use native.Mathlib.Omega.{arith}
 use mathlib.Core.Path.{refl}
 use denote.Ref.{now}

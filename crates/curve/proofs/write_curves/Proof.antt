@@ -1,4 +1,4 @@
--- `curve::curve_text::write_curves` meets its contract: a set out of range is refused before the text is laid.
+-- `curve::write_curves` meets its contract: a set out of range is refused before the text is laid.
 use native.Mathlib.Omega.{arith}
 use mathlib.Core.Bool.{true}
 use mathlib.Core.Path.{_≡_, sym, _∙_}

@@ -1,4 +1,4 @@
--- `curve::curves::curves_in_range` meets its contract.
+-- `curve_set::curves_in_range` meets its contract.
 use borrow.Author.Needs.{sfits-of}
 use mir.Facts.{toZ-ofZ}
 use Rattle.curve_set.specs.Curves.{curvesInRange}

@@ -1,4 +1,4 @@
--- `curve::curves::is_within` meets its contract.
+-- `curve_set::is_within` meets its contract.
 use mir.Facts.{toZ-ofZ}
 use Rattle.integer.proofs.Order.{le-leZ, lt-leZ}
 use Rattle.integer.proofs.Signed.{less-taken, less-left}

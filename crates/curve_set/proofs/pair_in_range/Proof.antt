@@ -1,4 +1,4 @@
--- `curve::curves::pair_in_range` meets its contract.
+-- `curve_set::pair_in_range` meets its contract.
 use borrow.Author.Needs.{sfits-of}
 use mir.Facts.{toZ-ofZ}
 use Rattle.curve_set.proofs.pair_in_range.Statement.{statement}

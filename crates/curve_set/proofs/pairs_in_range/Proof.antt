@@ -1,4 +1,4 @@
--- `curve::curves::pairs_in_range` meets its contract. The invariant: the pairs that are left decide.
+-- `curve_set::pairs_in_range` meets its contract. The invariant: the pairs that are left decide.
 use mathlib.Core.Path.{_≡_, refl, sym, _∙_}
 use mathlib.Core.Bool.{true, _&&_}
 use mathlib.Core.List.{List}

@@ -1,4 +1,4 @@
--- `curve::curves::refused_curves` meets its contract, by computation.
+-- `curve_set::refused_curves` meets its contract, by computation.
 use mathlib.Core.Path.{refl}
 use Rattle.curve_set.proofs.refused_curves.Statement.{statement}
 use Rattle.curve_set.proofs.refused_curves.Tie as tie

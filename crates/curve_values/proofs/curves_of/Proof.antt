@@ -1,4 +1,4 @@
--- `curve::curve_text::curves_of` meets its contract. The invariant: the pairs so far, and then those of the values that are left, are the pairs of the values.
+-- `curve_values::curves_of` meets its contract. The invariant: the pairs so far, and then those of the values that are left, are the pairs of the values.
 use borrow.Author.Needs.{sfits-of}
 use Prim.Native.Nat.{ℕ, suc, _+_, _*_, _-_, _≤_, _<_}
 use mathlib.Core.List.{_++_, append-nil}

@@ -1,4 +1,4 @@
--- `curve::curve_text::values_of` meets its contract. The invariant: the values so far, and then those of the pairs that are left, are the values of the set.
+-- `curve_values::values_of` meets its contract. The invariant: the values so far, and then those of the pairs that are left, are the values of the set.
 use borrow.Author.Needs.{sfits-of}
 use Prim.Native.Nat.{_+_, _*_, _-_, _≤_, _<_}
 use mathlib.Core.List.{_++_, append-nil}

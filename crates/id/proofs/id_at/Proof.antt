@@ -1,4 +1,4 @@
--- `text::id::id_at` meets its contract. A refused line is handed on; a value is judged as the id reader says.
+-- `id::id_at` meets its contract. A refused line is handed on; a value is judged as the id reader says.
 use native.Mathlib.Omega.{arith}
 use Rattle.id.proofs.Ids.{id-refused, id-value}
 use Rattle.id.proofs.id_at.Statement.{statement}

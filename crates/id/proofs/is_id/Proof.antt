@@ -1,4 +1,4 @@
--- `text::id::is_id` meets its contract. The invariant: the bytes that are left decide. The measure is what is left of the value.
+-- `id::is_id` meets its contract. The invariant: the bytes that are left decide. The measure is what is left of the value.
 use Prim.Native.Nat.{_-_}
 use mathlib.Core.Path.{sym, _∙_}
 use borrow.Author.Tests.{not-true, not-false}

@@ -1,4 +1,4 @@
--- `text::id::is_id_byte` meets its contract: each test of the definition by the bounds that hold there.
+-- `id::is_id_byte` meets its contract: each test of the definition by the bounds that hold there.
 use borrow.Author.Tests.{le-leb, lt-leb, ne-eqb}
 use Prim.Native.Nat.{ℕ}
 use native.Mathlib.Omega.{arith}

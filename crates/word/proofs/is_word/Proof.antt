@@ -1,4 +1,4 @@
--- `text::word::is_word` meets its contract. The invariant: what is left to compare decides. The measure is what is left of the value.
+-- `word::is_word` meets its contract. The invariant: what is left to compare decides. The measure is what is left of the value.
 use Prim.Native.Nat.{_-_}
 use mathlib.Core.Path.{refl, sym}
 use lib.ListN.{length}

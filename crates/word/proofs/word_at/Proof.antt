@@ -1,4 +1,4 @@
--- `text::word::word_at` meets its contract. A refused line hands its fault on; a value is judged as the word reader says.
+-- `word::word_at` meets its contract. A refused line hands its fault on; a value is judged as the word reader says.
 use native.Mathlib.Omega.{arith}
 use mathlib.Core.Path.{ap, _∙_}
 use Rattle.line.specs.Field.{refused}

@@ -1,4 +1,4 @@
--- `text::word::word_in` meets its contract. The invariant: the words that are left decide. The measure is what is left of the list.
+-- `word::word_in` meets its contract. The invariant: the words that are left decide. The measure is what is left of the list.
 use Prim.Native.Nat.{_-_}
 use mathlib.Core.Path.{refl, sym, _∙_}
 use lib.ListN.{length}

@@ -1,4 +1,4 @@
--- `text::write::block_length` meets its contract. The invariant: the sum is the length of the lines passed, and within the limit. The measure is what is left of the values.
+-- `writer::block_length` meets its contract. The invariant: the sum is the length of the lines passed, and within the limit. The measure is what is left of the values.
 use borrow.Author.Needs.{sfits-of}
 use Prim.Native.Nat.{ℕ, _+_, _-_, _≤_}
 use mathlib.Core.List.{List}

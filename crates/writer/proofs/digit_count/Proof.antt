@@ -1,4 +1,4 @@
--- `text::write::digit_count` meets its contract. The invariant: what is counted and the digits of the rest are one more than the digits of the number. The measure is the rest.
+-- `writer::digit_count` meets its contract. The invariant: what is counted and the digits of the rest are one more than the digits of the number. The measure is the rest.
 use Prim.Native.Nat.{_+_}
 use mathlib.Core.Path.{_≡_}
 use lib.ListN.{length}

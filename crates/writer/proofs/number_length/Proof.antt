@@ -1,4 +1,4 @@
--- `text::write::number_length` meets its contract: a number below zero has a byte more than its digits.
+-- `writer::number_length` meets its contract: a number below zero has a byte more than its digits.
 use native.Mathlib.Omega.{arith}
 use borrow.Author.Needs.{needs}
 use Prim.Native.Nat.{ℕ}

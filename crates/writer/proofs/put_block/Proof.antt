@@ -1,4 +1,4 @@
--- `text::write::put_block` meets its contract. The invariant: the lines passed are laid. The measure is what is left of the values.
+-- `writer::put_block` meets its contract. The invariant: the lines passed are laid. The measure is what is left of the values.
 use borrow.Author.Needs.{sfits-of}
 use Prim.Native.Nat.{ℕ, _+_, _-_, _≤_}
 use mathlib.Core.List.{List, _++_}

@@ -1,4 +1,4 @@
--- `text::write::put_bytes` meets its contract. The invariant: the first `i` bytes are laid. The measure is what is left of the bytes.
+-- `writer::put_bytes` meets its contract. The invariant: the first `i` bytes are laid. The measure is what is left of the bytes.
 use Prim.Native.Nat.{ℕ, _+_, _-_, _≤_}
 use mathlib.Core.Path.{_≡_, refl, sym, ap, _∙_}
 use mathlib.Core.List.{List}

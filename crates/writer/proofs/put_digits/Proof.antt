@@ -1,4 +1,4 @@
--- `text::write::put_digits` meets its contract. The invariant: the digits behind those of the rest are laid. The measure is the rest.
+-- `writer::put_digits` meets its contract. The invariant: the digits behind those of the rest are laid. The measure is the rest.
 use borrow.Author.Needs.{needs}
 use lib.ListN.{length-set}
 use Rattle.writer.proofs.Writing.{DigitsLeft, digits-start, digits-fit, digits-left, digits-end}

@@ -1,4 +1,4 @@
--- `text::write::put_line` meets its contract: key, number and byte 10, each laid behind the one before.
+-- `writer::put_line` meets its contract: key, number and byte 10, each laid behind the one before.
 use native.Mathlib.Omega.{arith}
 use Prim.Native.Nat.{ℕ, _+_, _≤_}
 use mathlib.Core.List.{List}

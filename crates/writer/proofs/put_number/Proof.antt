@@ -1,4 +1,4 @@
--- `text::write::put_number` meets its contract: the sign, and the digits behind it.
+-- `writer::put_number` meets its contract: the sign, and the digits behind it.
 use native.Mathlib.Omega.{arith}
 use Prim.Native.Nat.{ℕ}
 use mathlib.Core.List.{_∷_}

@@ -1,4 +1,4 @@
--- `text::write::write_block` meets its contract: the length tells whether the text fits before a byte is written.
+-- `writer::write_block` meets its contract: the length tells whether the text fits before a byte is written.
 use native.Mathlib.Omega.{arith}
 use borrow.Author.Needs.{needs}
 use Prim.Native.Nat.{ℕ, _-_, _≤_}

@@ -1,4 +1,4 @@
--- `block::write::output::put_refusal` meets its contract: two lines of numbers, then the text's name, each laid behind the one before.
+-- `writer::output::put_refusal` meets its contract: two lines of numbers, then the text's name, each laid behind the one before.
 use mathlib.Core.Path.{refl}
 use lib.IntN.{pos}
 use lib.ListN.{length-set}

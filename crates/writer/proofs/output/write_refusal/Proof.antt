@@ -1,4 +1,4 @@
--- `block::write::output::write_refusal` meets its contract: the length is known before a byte is written.
+-- `writer::output::write_refusal` meets its contract: the length is known before a byte is written.
 use Prim.Native.Nat.{ℕ, _+_}
 use native.Mathlib.Nat.{zero-add}
 use lib.ListN.{length}
