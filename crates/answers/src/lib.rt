@@ -1,7 +1,7 @@
 // What the readers of a text answer, and the fault that an answer carries: each answer is taken apart by `let .. else`, and the fault of a refused one is
 // handed on.
 ghost use mathlib.Core.Path.{_≡_};
-ghost use Rattle.answers.specs.Answers.{accepted, lineFault, numberFault, wordFault, blockFault, endAt, endFault};
+ghost use Rattle.answers.specs.Answers.{fault, lineFault, numberFault, wordFault, blockFault, endAt, endFault};
 use text::refusal::Fault;
 
 // What the line reader finds at a position.
@@ -39,14 +39,11 @@ pub enum End {
     Refused(Fault),
 }
 
-// No fault: the number 0, and where reading goes on.
-fn accepted(next: usize) -> Fault
-    ensures { λ r. ⌜ r ≡ accepted next ⌝ }
+// A fault of a number at a position; the number 0 is no fault, and the position then where reading goes on.
+fn fault_at(number: u64, at: usize) -> Fault
+    ensures { λ r. ⌜ r ≡ fault number at ⌝ }
 {
-    Fault {
-        number: 0,
-        at: next,
-    }
+    Fault { number, at }
 }
 
 // The fault of a refused line.
@@ -59,7 +56,7 @@ pub fn line_fault(line: Line) -> Fault
             start: _,
             end: _,
             next,
-        } => accepted(next),
+        } => fault_at(0, next),
     }
 }
 
@@ -69,7 +66,7 @@ pub fn number_fault(line: NumberLine) -> Fault
 {
     match line {
         NumberLine::Refused(fault) => fault,
-        NumberLine::Value { value: _, next } => accepted(next),
+        NumberLine::Value { value: _, next } => fault_at(0, next),
     }
 }
 
@@ -79,7 +76,7 @@ pub fn word_fault(line: WordLine) -> Fault
 {
     match line {
         WordLine::Refused(fault) => fault,
-        WordLine::Index { index: _, next } => accepted(next),
+        WordLine::Index { index: _, next } => fault_at(0, next),
     }
 }
 
@@ -89,7 +86,7 @@ pub fn block_fault(block: Block) -> Fault
 {
     match block {
         Block::Refused(fault) => fault,
-        Block::Read { next } => accepted(next),
+        Block::Read { next } => fault_at(0, next),
     }
 }
 
@@ -109,6 +106,6 @@ pub fn end_fault(end: End) -> Fault
 {
     match end {
         End::Refused(fault) => fault,
-        End::Reached => accepted(0),
+        End::Reached => fault_at(0, 0),
     }
 }

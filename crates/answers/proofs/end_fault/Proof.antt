@@ -8,14 +8,14 @@ enum-known-end c = c .match .keys1
 enum-told : tie.Need-enum-told
 enum-told c = c .match .keys2
 
-accepted-requires : tie.Need-accepted-requires
-accepted-requires c κs = tt
+fault-at-requires : tie.Need-fault-at-requires
+fault-at-requires c κs = tt
 
 returns : tie.Need-returns
 returns c = rw (c .before .end .given .1)
 
 returns-2 : tie.Need-returns-2
-returns-2 c = rw (c .before .enum-told .given .1) (c .accepted .ensures)
+returns-2 c = rw (c .before .enum-told .given .1) (c .fault-at .ensures)
 
 pub end-fault-spec : {M : Type 1} → statement M
-end-fault-spec = tie.close (tie.spec enum-known-end enum-told accepted-requires returns returns-2)
+end-fault-spec = tie.close (tie.spec enum-known-end enum-told fault-at-requires returns returns-2)
