@@ -13,8 +13,6 @@ use Rattle.answers.specs.declared.WordLine.{WordLine}
 use Rattle.answers.specs.declared.WordLine.the-variants as word-line
 use Rattle.answers.specs.declared.Block.{Block}
 use Rattle.answers.specs.declared.Block.the-variants as block
-use Rattle.answers.specs.declared.End.{End}
-use Rattle.answers.specs.declared.End.the-variants as end
 
 abbrev pub fault : ℕ → ℕ → Fault
 fault number at = record { number = number; at = at }
@@ -39,10 +37,6 @@ abbrev pub blockFault : Block → Fault
 blockFault (block.Read next) = accepted next
 blockFault (block.Refused found) = found
 
--- 9 where bytes follow the last due line
-abbrev pub endAt : List ℕ → ℕ → End
-endAt text at = pick (ltb at (length text)) (end.Refused (fault 9 at)) end.Reached
-
-abbrev pub endFault : End → Fault
-endFault end.Reached = accepted 0
-endFault (end.Refused found) = found
+-- the end of a text is a block of no lines: 9 where bytes follow the last due line
+abbrev pub endAt : List ℕ → ℕ → Block
+endAt text at = pick (ltb at (length text)) (block.Refused (fault 9 at)) (block.Read at)

@@ -1,7 +1,7 @@
 // What the readers of a text answer, and the fault that an answer carries: each answer is taken apart by `let .. else`, and the fault of a refused one is
 // handed on.
 ghost use mathlib.Core.Path.{_≡_};
-ghost use Rattle.answers.specs.Answers.{fault, lineFault, numberFault, wordFault, blockFault, endAt, endFault};
+ghost use Rattle.answers.specs.Answers.{fault, lineFault, numberFault, wordFault, blockFault, endAt};
 use text::refusal::Fault;
 
 // What the line reader finds at a position.
@@ -30,12 +30,6 @@ pub enum WordLine {
 // How reading a block ended: every line was read and the next one starts at next, or a line was refused.
 pub enum Block {
     Read { next: usize },
-    Refused(Fault),
-}
-
-// What follows the last due line.
-pub enum End {
-    Reached,
     Refused(Fault),
 }
 
@@ -90,22 +84,12 @@ pub fn block_fault(block: Block) -> Fault
     }
 }
 
-// The end of a text: bytes after the last due line are refused by 9.
-pub fn end_at(text: &[u8], at: usize) -> End
+// The end of a text, which has no more lines: bytes after the last due one are refused by 9.
+pub fn end_at(text: &[u8], at: usize) -> Block
     ensures { λ r. ⌜ r ≡ endAt (now (text .entry)) at ⌝ }
 {
     if at < text.len() {
-        return End::Refused(Fault { number: 9, at });
+        return Block::Refused(Fault { number: 9, at });
     }
-    End::Reached
-}
-
-// The fault of bytes after the last due line.
-pub fn end_fault(end: End) -> Fault
-    ensures { λ r. ⌜ r ≡ endFault end ⌝ }
-{
-    match end {
-        End::Refused(fault) => fault,
-        End::Reached => fault_at(0, 0),
-    }
+    Block::Read { next: at }
 }

@@ -16,7 +16,6 @@ use Rattle.integer.proofs.Bounds.{abs-bound}
 use Rattle.text.specs.Choice.{pick}
 use Rattle.text.specs.Bytes.{bytes}
 use Rattle.line.specs.Line.{lineLength}
-use Rattle.answers.specs.declared.End.the-variants as end
 use Rattle.text.proofs.Choices.{and-left, and-right}
 use Rattle.number.specs.Number.{digitsOf, writtenNumber}
 use Rattle.number.specs.Field.{numberField}
@@ -194,7 +193,7 @@ curve-text-is-written-back text e = go (ltb 4096 (length text)) (readFields curv
     values : List ℤ
     values = readFields curveFields text 0 .values
 
-    at-end : (next : ℕ) → readFields curveFields text 0 .end ≡ block.Read next → (b : Bool) → ltb next (length text) ≡ b → afterCurves text values (pick b (end.Refused (record { number = 9; at = next })) end.Reached) .answer ≡ answer.Accepted → curveText (afterCurves text values (pick b (end.Refused (record { number = 9; at = next })) end.Reached) .set) ≡ text
+    at-end : (next : ℕ) → readFields curveFields text 0 .end ≡ block.Read next → (b : Bool) → ltb next (length text) ≡ b → afterCurves text values (pick b (block.Refused (record { number = 9; at = next })) (block.Read next)) .answer ≡ answer.Accepted → curveText (afterCurves text values (pick b (block.Refused (record { number = 9; at = next })) (block.Read next)) .set) ≡ text
     at-end next read true h e = let z : _≡_ {A = ℕ} 0 1 = cc in absurd (omega arith)
     at-end next read false h e = written-back text next read (ltb-false next (length text) h)
 

@@ -13,11 +13,9 @@ use Rattle.text.specs.Choice.{pick}
 use Rattle.text.specs.Bytes.{bytes}
 use Rattle.piece.specs.Piece.{piecesFrom}
 use Rattle.text.specs.Refusal.{refusalOf}
-use Rattle.answers.specs.Answers.{endAt, endFault, blockFault}
+use Rattle.answers.specs.Answers.{endAt, blockFault}
 use Rattle.text.specs.declared.refusal.Fault.{Fault}
 use Rattle.text.specs.declared.refusal.Refusal.{Refusal}
-use Rattle.answers.specs.declared.End.{End}
-use Rattle.answers.specs.declared.End.the-variants as end
 use Rattle.text.proofs.Choices.{chosen, passed-over}
 use Rattle.line.specs.Field.{Field, Answer, got, refused, fieldAt}
 use Rattle.block.specs.Block.{andThen, readFields, writeFields, repeated, numberFields, keysOf, laidOver, placedFields, BlockRead}
@@ -117,12 +115,12 @@ module _ {text : List ℕ} {values : List ℤ} {ended : Block} (given : CurveBlo
   block-refused told fault-is refusal-is curves-is = rw (curves-is, refusal-is, fault-is, decided, told)
 
   pub end-refused :
-      {next : ℕ} {at-end : End} {found fault : Fault} {refusal : Refusal} {curves : Curves} → ended ≡ block.Read next → at-end ≡ endAt text next →
-      at-end ≡ end.Refused found → fault ≡ endFault at-end → refusal ≡ refusalOf text fault → curves ≡ refusedCurves (answer.Refused refusal) → curves ≡ readCurves text
+      {next : ℕ} {at-end : Block} {found fault : Fault} {refusal : Refusal} {curves : Curves} → ended ≡ block.Read next → at-end ≡ endAt text next →
+      at-end ≡ block.Refused found → fault ≡ blockFault at-end → refusal ≡ refusalOf text fault → curves ≡ refusedCurves (answer.Refused refusal) → curves ≡ readCurves text
   end-refused told at-end-is end-told fault-is refusal-is curves-is = rw (curves-is, refusal-is, fault-is, decided, told, ← at-end-is, end-told)
 
   pub text-accepted :
-      {next : ℕ} {at-end : End} {set : CurveSet} → ended ≡ block.Read next → at-end ≡ endAt text next → at-end ≡ end.Reached → set ≡ curvesOf values →
+      {next stop : ℕ} {at-end : Block} {set : CurveSet} → ended ≡ block.Read next → at-end ≡ endAt text next → at-end ≡ block.Read stop → set ≡ curvesOf values →
       record { set = set; answer = answer.Accepted } ≡ readCurves text
   text-accepted {next} told at-end-is end-told set-is = rw (set-is, decided, told, ← at-end-is, end-told, given .read next told)
 

@@ -14,8 +14,6 @@ use Rattle.line.specs.Field.{Field}
 use Rattle.number.specs.Field.{numberField}
 use Rattle.block.specs.Block.{readFields, writeFields, repeated}
 use Rattle.writer.specs.Write.{laidAt}
-use Rattle.answers.specs.declared.End.{End}
-use Rattle.answers.specs.declared.End.the-variants as end
 use Rattle.answers.specs.declared.Block.{Block}
 use Rattle.answers.specs.declared.Block.the-variants as block
 use Rattle.curve_set.specs.Answer.{refusal}
@@ -42,9 +40,9 @@ curveFields =
 
 -- ---- reading: 2 above 4096 bytes, the lines with 3 to 7, then 9
 
-abbrev pub afterCurves : List ℕ → List ℤ → End → Curves
-afterCurves text values (end.Refused found) = refusedCurves (answer.Refused (refusalOf text found))
-afterCurves text values end.Reached = record { set = curvesOf values; answer = answer.Accepted }
+abbrev pub afterCurves : List ℕ → List ℤ → Block → Curves
+afterCurves text values (block.Refused found) = refusedCurves (answer.Refused (refusalOf text found))
+afterCurves text values (block.Read stop) = record { set = curvesOf values; answer = answer.Accepted }
 
 abbrev pub afterCurveBlock : List ℕ → List ℤ → Block → Curves
 afterCurveBlock text values (block.Refused found) = refusedCurves (answer.Refused (refusalOf text found))

@@ -4,10 +4,8 @@ ghost use Rattle.curve_values.specs.CurveValues.{curveValues};
 ghost use Rattle.curve_set.specs.Curves.{evenCurves};
 ghost use Rattle.curve.specs.CurveText.{readCurves, CurvesWritten};
 use answers::Block;
-use answers::End;
 use answers::block_fault;
 use answers::end_at;
-use answers::end_fault;
 use block::read_block;
 use curve_set::CurveSet;
 use curve_set::Curves;
@@ -55,8 +53,8 @@ pub fn read_curves(text: &[u8]) -> Curves
         return refused_curves(found.number, found.line);
     };
     let e = end_at(text, next);
-    let End::Reached = e else {
-        let found = refusal_of(text, end_fault(e));
+    let Block::Read { next: _ } = e else {
+        let found = refusal_of(text, block_fault(e));
         return refused_curves(found.number, found.line);
     };
     Curves {

@@ -24,8 +24,6 @@ use Rattle.text.specs.declared.refusal.Refusal.{Refusal}
 use Rattle.answers.specs.Answers.{endAt}
 use Rattle.answers.specs.declared.Line.{Line}
 use Rattle.answers.specs.declared.Line.the-variants as line
-use Rattle.answers.specs.declared.End.{End}
-use Rattle.answers.specs.declared.End.the-variants as end
 use Rattle.number.specs.declared.Number.the-variants as number
 use Rattle.answers.specs.declared.Block.{Block}
 use Rattle.answers.specs.declared.Block.the-variants as block
@@ -123,9 +121,9 @@ hour-is text hour runs = go (ltb 65536 (length text)) (readFields hourFields tex
     reading : ℕ → Reading ℤ
     reading next = readFields (repeated (natAbs (hourOf values .runs)) runFields) text next
 
-    of-end : (others : List Run) (found : End) → afterRuns text (hourOf values) others found ≡ read hour runs → hour ≡ hourOf values
-    of-end others (end.Refused found) e = cc
-    of-end others end.Reached e = cc
+    of-end : (others : List Run) (found : Block) → afterRuns text (hourOf values) others found ≡ read hour runs → hour ≡ hourOf values
+    of-end others (block.Refused found) e = cc
+    of-end others (block.Read stop) e = cc
 
     of-runs : (others : List ℤ) (found : Block) → afterRunBlock text (hourOf values) others found ≡ read hour runs → hour ≡ hourOf values
     of-runs others (block.Refused found) e = cc

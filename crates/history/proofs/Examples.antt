@@ -5,7 +5,7 @@ use mathlib.Core.List.{[], _∷_}
 use lib.IntN.{pos, negsuc}
 use Rattle.integer.specs.Floor.{floorDiv}
 use Rattle.quadratic.specs.Quadratic.{quadratic}
-use Rattle.integer.specs.Root.{rootOf, rootIn, raised}
+use Rattle.root.specs.Root.{rootOf, rootIn, raised}
 use Rattle.curve_set.specs.declared.answer.Answer.the-variants as answer
 use Rattle.record.specs.declared.Group.{Group}
 use Rattle.curve_set.specs.Answer.{refusal}

@@ -23,8 +23,6 @@ use Rattle.line.specs.Field.{Field}
 use Rattle.block.specs.Block.{Reading, readFields, repeated, numberFields, keysOf, placedFields, BlockRead, value}
 use Rattle.season.specs.Season.{groupOf, seasonOf, blockOf}
 use Rattle.text.specs.declared.refusal.Fault.{Fault}
-use Rattle.answers.specs.declared.End.{End}
-use Rattle.answers.specs.declared.End.the-variants as end
 use Rattle.answers.specs.declared.Block.{Block}
 use Rattle.answers.specs.declared.Block.the-variants as block
 use Rattle.hour.specs.Hour.{Hour, hourFields, hourOf, Run, runFields, runsOf, read, refused, afterRuns, afterRunBlock, runsAt, afterHourBlock, hourIn, hourAhead, scedSum, errorOf, hourGroup, errorAnswer, intervalsOf, intervalsIn, intervalFault, moved, Bounded}
@@ -132,9 +130,9 @@ hour-read text h rs e = by-length (ltb 65536 (length text)) e
     values : List ℤ
     values = readFields hourFields text 0 .values
 
-    last : (next : ℕ) → readFields hourFields text 0 .end ≡ block.Read next → (others : List ℤ) (ended : End) → afterRuns text (hourOf values) (runsOf (natAbs (hourOf values .runs)) others) ended ≡ read h rs → HourRead h rs
-    last next told others (end.Refused found) e = let z : _≡_ {A = ℕ} 0 1 = cc in absurd (omega arith)
-    last next told others end.Reached e =
+    last : (next : ℕ) → readFields hourFields text 0 .end ≡ block.Read next → (others : List ℤ) (ended : Block) → afterRuns text (hourOf values) (runsOf (natAbs (hourOf values .runs)) others) ended ≡ read h rs → HourRead h rs
+    last next told others (block.Refused found) e = let z : _≡_ {A = ℕ} 0 1 = cc in absurd (omega arith)
+    last next told others (block.Read stop) e =
         let same : hourOf values ≡ h = cc in
         let runs : runsOf (natAbs (hourOf values .runs)) others ≡ rs = cc in
         let counted = runs-length (natAbs (hourOf values .runs)) others in
@@ -159,9 +157,9 @@ hour-group-below text h rs e = group-below h (hour-read text h rs e .range)
 
 -- ---- the answer, from what the interval reader gives on the part that starts at a position
 
-abbrev pub answerAtEnd : List ℕ → Hour → ℤ → End → ReadHour
-answerAtEnd text h sum (end.Refused found) = read-hour.Refused (refusalOf text found)
-answerAtEnd text h sum end.Reached = read-hour.Error (hourGroup h) (hourAhead h -ℤ floorDiv sum (natAbs (h .runs)) +ℤ h .shed)
+abbrev pub answerAtEnd : List ℕ → Hour → ℤ → Block → ReadHour
+answerAtEnd text h sum (block.Refused found) = read-hour.Refused (refusalOf text found)
+answerAtEnd text h sum (block.Read stop) = read-hour.Error (hourGroup h) (hourAhead h -ℤ floorDiv sum (natAbs (h .runs)) +ℤ h .shed)
 
 abbrev pub answerOf : List ℕ → Hour → ℕ → Intervals → ReadHour
 answerOf text h at (intervals.Refused found) = read-hour.Refused (refusalOf text (moved at found))
@@ -177,9 +175,9 @@ runs-answer text h at = rw (reading-from (repeated n runFields) text at) (by-end
     n : ℕ
     n = natAbs (h .runs)
 
-    ended : (values : List ℤ) (found : End) → answerAtEnd text h (scedSum (runsOf n values)) found ≡ errorAnswer (afterRuns text h (runsOf n values) found)
-    ended values (end.Refused found) = refl
-    ended values end.Reached = rw (runs-length n values)
+    ended : (values : List ℤ) (found : Block) → answerAtEnd text h (scedSum (runsOf n values)) found ≡ errorAnswer (afterRuns text h (runsOf n values) found)
+    ended values (block.Refused found) = refl
+    ended values (block.Read stop) = rw (runs-length n values)
 
     by-end : (reading : Reading ℤ) → answerOf text h at (intervalsOf n reading) ≡ errorAnswer (afterRunBlock text h (reading .values) (movedBlock at (reading .end)))
     by-end reading = go (reading .end) refl
@@ -208,7 +206,7 @@ module _
   runs-answers found is = rw (← is, rest-read, counted) (runs-answer text (hourOf values) next)
 
   module _ (sum : ℤ) (after : ℕ) (is : given ≡ intervals.Sum sum after) where
-    pub runs-ended : (found : End) → found ≡ endAt text (next + after) → answerAtEnd text (hourOf values) sum found ≡ errorAnswer (runsAt text (hourOf values) next)
+    pub runs-ended : (found : Block) → found ≡ endAt text (next + after) → answerAtEnd text (hourOf values) sum found ≡ errorAnswer (runsAt text (hourOf values) next)
     runs-ended found e = rw e (runs-answers (intervals.Sum sum after) is)
 
     pub mean-small : natAbs (floorDiv sum runs) ≤ 900000000

@@ -14,8 +14,6 @@ use Rattle.number.specs.Field.{numberField}
 use Rattle.block.specs.Block.{Reading, readFields, repeated, value}
 use Rattle.text.specs.declared.refusal.Fault.{Fault}
 use Rattle.text.specs.declared.refusal.Refusal.{Refusal}
-use Rattle.answers.specs.declared.End.{End}
-use Rattle.answers.specs.declared.End.the-variants as end
 use Rattle.answers.specs.declared.Block.{Block}
 use Rattle.answers.specs.declared.Block.the-variants as block
 use Rattle.season.specs.Season.{groupOf}
@@ -132,9 +130,9 @@ pub data HourAnswer : Type 0 where
   read : Hour → List Run → HourAnswer
   refused : Refusal → HourAnswer
 
-abbrev pub afterRuns : List ℕ → Hour → List Run → End → HourAnswer
-afterRuns text hour runs (end.Refused found) = refused (refusalOf text found)
-afterRuns text hour runs end.Reached = read hour runs
+abbrev pub afterRuns : List ℕ → Hour → List Run → Block → HourAnswer
+afterRuns text hour runs (block.Refused found) = refused (refusalOf text found)
+afterRuns text hour runs (block.Read stop) = read hour runs
 
 abbrev pub afterRunBlock : List ℕ → Hour → List ℤ → Block → HourAnswer
 afterRunBlock text hour values (block.Refused found) = refused (refusalOf text found)

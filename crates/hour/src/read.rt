@@ -11,10 +11,8 @@ use crate::intervals::interval_fault;
 use crate::intervals::read_intervals;
 use crate::reserve::reserve_error;
 use answers::Block;
-use answers::End;
 use answers::block_fault;
 use answers::end_at;
-use answers::end_fault;
 use block::read_block;
 use integer::floor_div;
 use integer::magnitude;
@@ -84,8 +82,8 @@ fn runs_at(text: &[u8], next: usize, v: &[i64]) -> ReadHour
         return ReadHour::Refused(refusal_of(text, interval_fault(i, next)));
     };
     let e = end_at(text, next + length);
-    let End::Reached = e else {
-        return ReadHour::Refused(refusal_of(text, end_fault(e)));
+    let Block::Read { next: _ } = e else {
+        return ReadHour::Refused(refusal_of(text, block_fault(e)));
     };
     error_of(v, runs, sum)
 }

@@ -3,4 +3,3 @@ pub mod Difference
 pub mod Floor
 pub mod Order
 pub mod Signed
-pub mod SquareRoot

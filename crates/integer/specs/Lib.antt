@@ -1,3 +1,2 @@
 pub mod Floor
 pub mod Order
-pub mod Root

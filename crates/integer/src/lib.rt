@@ -1,10 +1,9 @@
-// Whole numbers: the magnitude of a signed number, division rounded down, the square root.
+// Whole numbers: the magnitude of a signed number, and division rounded down.
 ghost use mathlib.Core.Path.{_≡_};
-ghost use Prim.Native.Nat.{_/_, _≤_};
+ghost use Prim.Native.Nat.{_/_};
 ghost use lib.IntN.{pos, negsuc, natAbs};
 ghost use lib.Signed.{_<ℤ_};
 ghost use Rattle.integer.specs.Floor.{floorDiv};
-ghost use Rattle.integer.specs.Root.{rootOf};
 
 // How far a negative number is below -1: the least number has this in an unsigned one, and not its magnitude.
 fn complement(a: i64) -> u64
@@ -38,27 +37,4 @@ pub fn floor_div(a: i64, n: u64) -> i64
     } else {
         quotient(a as u64, n) as i64
     }
-}
-
-// The largest number whose square is at most `x`. The first guess is a power of two at or above the root, from the length
-// of `x` in bits; each step of Newton's is smaller and not below the root. Its square could overflow: the quotient by the
-// guess is compared instead.
-pub fn root(x: u64) -> u64
-    ensures { λ r. ⌜ r ≡ rootOf x ⌝ }
-{
-    if x == 0 {
-        return 0;
-    }
-    let mut r = 1u64 << ((65 - u64::leading_zeros(x)) / 2);
-    while x / r < r {
-        r = (r + x / r) / 2;
-    }
-    r
-}
-
-// A number in twice the width.
-pub fn wide(x: i32) -> i64
-    ensures { λ r. ⌜ (r ≡ x) × (natAbs r ≤ 2147483648) ⌝ }
-{
-    x as i64
 }

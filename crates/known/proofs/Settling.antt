@@ -2,7 +2,7 @@
 use mathlib.Core.Path.{refl}
 use Rattle.integer.specs.Floor.{floorDiv}
 use Rattle.quadratic.specs.Quadratic.{quadratic}
-use Rattle.integer.specs.Root.{raised, rootIn, rootOf}
+use Rattle.root.specs.Root.{raised, rootIn, rootOf}
 use Rattle.curve_values.specs.CurveValues.{pairValues}
 use Rattle.known.specs.Statement.{AllHold}
 use Rattle.history.specs.Booking.{withError}

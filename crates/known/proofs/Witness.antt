@@ -13,7 +13,7 @@ use Rattle.integer.proofs.Order.{pos-≤ℤ}
 use Rattle.normal.specs.Knot.{knot}
 use Rattle.normal.specs.Normal.{normal, upper, interpolated}
 use Rattle.quadratic.specs.Quadratic.{quadratic}
-use Rattle.integer.specs.Root.{rootOf, rootIn, raised}
+use Rattle.root.specs.Root.{rootOf, rootIn, raised}
 use Rattle.text.specs.Choice.{pick}
 use Rattle.text.specs.Bytes.{bytes}
 use Rattle.line.specs.Line.{lineIn, lineLength, begins}

@@ -15,7 +15,7 @@ use Rattle.integer.proofs.Difference.{view, toℕ, toℕ-products}
 use Rattle.integer.proofs.Order.{le-leZ, ≤ℤ-or-<ℤ, <ℤ-to-≤ℤ, -ℤ-nonneg, sum-nonneg, product-nonneg, square-nonneg, pos-≤ℤ}
 use Rattle.integer.proofs.Bounds.{abs-bound}
 use Rattle.integer.proofs.Floor.{floor-low, floor-high, floor-bound}
-use Rattle.integer.proofs.SquareRoot.{root-is, root-le}
+use Rattle.root.proofs.SquareRoot.{root-is, root-le}
 use Rattle.text.specs.Choice.{pick}
 use Rattle.curve_set.specs.declared.answer.Answer.{Answer}
 use Rattle.curve_set.specs.declared.answer.Answer.the-variants as answer

@@ -3,7 +3,7 @@ use Prim.Native.Nat.{ℕ, suc, _/_}
 use mathlib.Core.List.{List, [], _∷_, map}
 use lib.Dec.{ltb, eqb}
 use lib.IntN.{ℤ, pos, natAbs}
-use Rattle.integer.specs.Root.{rootOf}
+use Rattle.root.specs.Root.{rootOf}
 use Rattle.text.specs.Choice.{pick}
 use Rattle.curve_set.specs.Answer.{refusal}
 use Rattle.settling.specs.Possible.{meanOf, squaresAround, allPossible}

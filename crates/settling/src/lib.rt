@@ -15,9 +15,9 @@ use curve_set::Pair;
 use curve_set::answer::Answer;
 use curve_set::refused_curves;
 use integer::floor_div;
-use integer::root;
 use record::Group;
 use record::Record;
+use root::root;
 
 // The mean and the spread of a group that has hours.
 fn pair_of(g: Group) -> Pair

@@ -12,8 +12,6 @@ use Rattle.integer.proofs.Difference.{view, toℕ}
 use Rattle.text.specs.Choice.{pick}
 use Rattle.text.specs.Bytes.{bytes}
 use Rattle.answers.specs.Answers.{fault, endAt}
-use Rattle.answers.specs.declared.End.{End}
-use Rattle.answers.specs.declared.End.the-variants as end
 use Rattle.number.specs.Number.{ranged}
 use Rattle.line.specs.Field.{Answer, got, refused}
 use Rattle.block.specs.Block.{readFields}
@@ -100,9 +98,9 @@ pub record SnapshotRead (h : Header) (entries : List Entry) : Type 0 where
   pub header : HeaderInRange h
   pub resources : EntriesRead (natAbs (h .count)) entries
 
-last-read : (text : List ℕ) (h : Header) (entries : List Entry) (e : End) {h′ : Header} {entries′ : List Entry} → afterLast text h entries e ≡ read h′ entries′ → (h ≡ h′) × (entries ≡ entries′)
-last-read text h entries end.Reached p = (cc, cc)
-last-read text h entries (end.Refused fault) p = (cc, cc)
+last-read : (text : List ℕ) (h : Header) (entries : List Entry) (e : Block) {h′ : Header} {entries′ : List Entry} → afterLast text h entries e ≡ read h′ entries′ → (h ≡ h′) × (entries ≡ entries′)
+last-read text h entries (block.Read stop) p = (cc, cc)
+last-read text h entries (block.Refused fault) p = (cc, cc)
 
 resources-read : (text : List ℕ) (h : Header) (at : ℕ) (a : Answer (List Entry)) {h′ : Header} {entries : List Entry} → resourcesAt resourceAt (natAbs (h .count)) [] text at ≡ a → HeaderInRange h → afterResources text h a ≡ read h′ entries → SnapshotRead h′ entries
 resources-read text h at (refused fault) given ranged p = let z : _≡_ {A = ℕ} 0 1 = cc in absurd (omega arith)

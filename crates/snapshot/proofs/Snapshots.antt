@@ -11,8 +11,6 @@ use Rattle.text.specs.Refusal.{refusalOf}
 use Rattle.answers.specs.Answers.{endAt}
 use Rattle.text.specs.declared.refusal.Fault.{Fault}
 use Rattle.text.specs.declared.refusal.Refusal.{Refusal}
-use Rattle.answers.specs.declared.End.{End}
-use Rattle.answers.specs.declared.End.the-variants as end
 use Rattle.line.specs.Field.{Answer, got, refused}
 use Rattle.block.specs.Block.{readFields, numberFields, BlockRead}
 use Rattle.answers.specs.declared.Block.{Block}
@@ -42,9 +40,9 @@ headerSchema =
     }
 
 -- what is left once the sums are known: bytes after the last line
-abbrev ended : List ℕ → Header → Sums → End → Snapshot
-ended text h s (end.Refused found) = snapshot.Refused (refusalOf text found)
-ended text h s end.Reached = snapshot.Read h s
+abbrev ended : List ℕ → Header → Sums → Block → Snapshot
+ended text h s (block.Refused found) = snapshot.Refused (refusalOf text found)
+ended text h s (block.Read stop) = snapshot.Read h s
 
 abbrev afterSums : List ℕ → Header → Answer Sums → Snapshot
 afterSums text h (refused found) = snapshot.Refused (refusalOf text found)
@@ -54,9 +52,9 @@ after-sums : (text : List ℕ) (h : Header) (a : Answer (List Entry)) → snapsh
 after-sums text h (refused found) = refl
 after-sums text h (got entries next) = go (endAt text next)
   where
-    go : (e : End) → snapshotSums (afterLast text h entries e) ≡ ended text h (sumsOf (resourcesOf entries)) e
-    go (end.Refused found) = refl
-    go end.Reached = refl
+    go : (e : Block) → snapshotSums (afterLast text h entries e) ≡ ended text h (sumsOf (resourcesOf entries)) e
+    go (block.Refused found) = refl
+    go (block.Read stop) = refl
 
 pub snapshot-long : (text : List ℕ) → 1048576 < length text → snapshot.Refused (record { number = 2; line = 0 }) ≡ snapshotSums (snapshotIn text)
 unfolding snapshotIn
@@ -107,11 +105,11 @@ module _
       snapshot.Refused refusal ≡ snapshotSums (afterResources text h (resourcesAt resourceAt (natAbs (h .count)) [] text at))
   rest-refused told given = rw (whole, given, told)
 
-  module _ {sums : Sums} {last : ℕ} (told : answer ≡ resources.Read sums last) {e : End} (ends : e ≡ endAt text last) where
+  module _ {sums : Sums} {last : ℕ} (told : answer ≡ resources.Read sums last) {e : Block} (ends : e ≡ endAt text last) where
     pub rest-end :
-        {after-it : Fault} {refusal : Refusal} → e ≡ end.Refused after-it → refusal ≡ refusalOf text after-it →
+        {after-it : Fault} {refusal : Refusal} → e ≡ block.Refused after-it → refusal ≡ refusalOf text after-it →
         snapshot.Refused refusal ≡ snapshotSums (afterResources text h (resourcesAt resourceAt (natAbs (h .count)) [] text at))
     rest-end over given = rw (whole, told, ← ends, given, over)
 
-    pub rest-whole : e ≡ end.Reached → snapshot.Read h sums ≡ snapshotSums (afterResources text h (resourcesAt resourceAt (natAbs (h .count)) [] text at))
+    pub rest-whole : {stop : ℕ} → e ≡ block.Read stop → snapshot.Read h sums ≡ snapshotSums (afterResources text h (resourcesAt resourceAt (natAbs (h .count)) [] text at))
     rest-whole over = rw (whole, told, ← ends, over)

@@ -15,8 +15,6 @@ use Rattle.block.specs.Block.{readFields}
 use Rattle.id.specs.Id.{idField}
 use Rattle.text.specs.declared.refusal.Fault.{Fault}
 use Rattle.text.specs.declared.refusal.Refusal.{Refusal}
-use Rattle.answers.specs.declared.End.{End}
-use Rattle.answers.specs.declared.End.the-variants as end
 use Rattle.answers.specs.declared.Block.{Block}
 use Rattle.answers.specs.declared.Block.the-variants as block
 use Rattle.block.specs.Block.{value}
@@ -119,9 +117,9 @@ pub data SnapshotAnswer : Type 0 where
   read : Header → List Entry → SnapshotAnswer
   turned-back : Refusal → SnapshotAnswer
 
-abbrev pub afterLast : List ℕ → Header → List Entry → End → SnapshotAnswer
-afterLast text h entries (end.Refused found) = turned-back (refusalOf text found)
-afterLast text h entries end.Reached = read h entries
+abbrev pub afterLast : List ℕ → Header → List Entry → Block → SnapshotAnswer
+afterLast text h entries (block.Refused found) = turned-back (refusalOf text found)
+afterLast text h entries (block.Read stop) = read h entries
 
 abbrev pub afterResources : List ℕ → Header → Answer (List Entry) → SnapshotAnswer
 afterResources text h (refused found) = turned-back (refusalOf text found)

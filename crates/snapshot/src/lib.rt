@@ -16,7 +16,6 @@ use crate::resources::resources_at;
 use adder::sums::Header;
 use adder::sums::Sums;
 use answers::Block;
-use answers::End;
 use answers::end_at;
 use integer::magnitude;
 use text::refusal::Refusal;
@@ -84,8 +83,8 @@ fn after_header(text: &[u8], header: Header, at: usize) -> Snapshot
         Resources::Read { sums, next } => {
             let e = end_at(text, next);
             match e {
-                End::Refused(fault) => return Snapshot::Refused(refusal_of(text, fault)),
-                End::Reached => return Snapshot::Read { header, sums },
+                Block::Refused(fault) => return Snapshot::Refused(refusal_of(text, fault)),
+                Block::Read { next: _ } => return Snapshot::Read { header, sums },
             }
         }
     }

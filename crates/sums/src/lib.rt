@@ -4,13 +4,13 @@ ghost use Prim.Native.Nat.{_≤_};
 ghost use lib.IntN.{natAbs, _-ℤ_};
 ghost use Rattle.sums.specs.Sums.{partOf};
 use adder::sums::Sums;
-use integer::wide;
 use offline_units::counted_offline;
 use online_units::counted_online;
 use resource::Controllable;
 use resource::Generator;
 use resource::Load;
 use resource::Resource;
+use width::wide;
 
 // A number less two others.
 fn less(x: i32, y: i32, z: i32) -> i64

@@ -10,7 +10,6 @@ use answers::NumberLine;
 use answers::WordLine;
 use answers::block_fault;
 use answers::end_at;
-use answers::end_fault;
 use block::read_block;
 use id::id_at;
 use number::number_at;
@@ -73,14 +72,14 @@ fn show_values(values: &[i64]) {
 }
 
 // The values are shown where the block was read and the text ends with it. No refusal has the number 0: `block_fault` gives it, with the position
-// after the block, for a block that was read, and `end_fault` for an end that was reached.
+// where reading goes on, for what was read.
 fn show_block(text: &[u8], read: Fault, values: &[i64]) {
     if read.number != 0 {
         show_fault(text, read);
         return;
     }
     let next = read.at;
-    let end = end_fault(end_at(text, next));
+    let end = block_fault(end_at(text, next));
     if end.number != 0 {
         show_fault(text, end);
         return;

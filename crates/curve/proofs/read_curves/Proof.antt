@@ -77,8 +77,8 @@ enum-told-2 c = omega arith
 enum-told-3 : tie.Need-enum-told-3
 enum-told-3 c = omega arith
 
-end-fault-requires : tie.Need-end-fault-requires
-end-fault-requires c κs = tt
+block-fault-requires-2 : tie.Need-block-fault-requires-2
+block-fault-requires-2 c κs = tt
 
 refusal-of-requires-2 : tie.Need-refusal-of-requires-2
 refusal-of-requires-2 c κs = tt
@@ -90,7 +90,7 @@ returns-3 : tie.Need-returns-3
 returns-3 c =
     let told = c .before .before .before in
     let ended = told .before .before in
-    end-refused (read (ended .before .before .before .before .before)) (ended .before .before .b .given .1) (ended .end-at .ensures) (told .enum-told3 .given .1) (c .before .before .end-fault .ensures) (c .before .refusal-of2 .ensures) (c .refused-curves3 .ensures)
+    end-refused (read (ended .before .before .before .before .before)) (ended .before .before .b .given .1) (ended .end-at .ensures) (told .enum-told3 .given .1) (c .before .before .block-fault2 .ensures) (c .before .refusal-of2 .ensures) (c .refused-curves3 .ensures)
 
 curves-of-requires : tie.Need-curves-of-requires
 curves-of-requires c κs = tt
@@ -123,7 +123,7 @@ read-curves-spec =
     end-at-requires
     enum-told-2
     enum-told-3
-    end-fault-requires
+    block-fault-requires-2
     refusal-of-requires-2
     refused-curves-requires-3
     returns-3

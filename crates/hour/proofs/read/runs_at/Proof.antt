@@ -63,8 +63,8 @@ enum-told-2 c = omega arith
 enum-told-3 : tie.Need-enum-told-3
 enum-told-3 c = omega arith
 
-end-fault-requires : tie.Need-end-fault-requires
-end-fault-requires c κs = tt
+block-fault-requires : tie.Need-block-fault-requires
+block-fault-requires c κs = tt
 
 refusal-of-requires-2 : tie.Need-refusal-of-requires-2
 refusal-of-requires-2 c κs = tt
@@ -77,7 +77,7 @@ returns-2 c =
     let counted = given .before .before in
     let start = counted .before .before in
     let told = c .before .before .enum-told3 .given .1 in
-    rw (c .refusal-of2 .ensures, c .before .end-fault .ensures, told)
+    rw (c .refusal-of2 .ensures, c .before .block-fault .ensures, told)
     (runs-ended (start .args .text .now) (start .args .v .now) (start .args .next) (start .pre .1) (counted .magnitude-at .ensures) (given .read-intervals .ensures) _ _ (sum .i .given .1) _ (sym told ∙ ended .end-at .ensures))
 
 error-of-requires : tie.Need-error-of-requires
@@ -132,7 +132,7 @@ runs-at-spec =
     end-at-requires
     enum-told-2
     enum-told-3
-    end-fault-requires
+    block-fault-requires
     refusal-of-requires-2
     returns-2
     error-of-requires

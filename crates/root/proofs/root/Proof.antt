@@ -5,9 +5,9 @@ use native.Mathlib.Omega.{arith}
 use lib.Dec.{lit<}
 use lib.Count.{leadingZeros, leading-le, leading-length}
 use lib.Pow.{pow-mono}
-use Rattle.integer.proofs.SquareRoot.{root-unique, newton-above, newton-below, first-guess}
-use Rattle.integer.proofs.root.Statement.{statement}
-use Rattle.integer.proofs.root.Tie as tie
+use Rattle.root.proofs.SquareRoot.{root-unique, newton-above, newton-below, first-guess}
+use Rattle.root.proofs.root.Statement.{statement}
+use Rattle.root.proofs.root.Tie as tie
 
 -- the guess is not below the root, not 0, and so small that a step fits
 abbrev Near : (x r : ℕ) → Type 0

@@ -8,9 +8,9 @@ use borrow.Author.Tests.{leb-true, leb-false}
 use lib.Dec.{leb}
 use lib.IntN.{pos, _-ℤ_}
 use lib.Pow.{pow-mono, pow-add}
 use Rattle.integer.proofs.Difference.{toℕ}
 use Rattle.integer.proofs.Order.{square-nonneg}
-use Rattle.integer.specs.Root.{IsRoot, raised, rootIn, rootOf}
+use Rattle.root.specs.Root.{IsRoot, raised, rootIn, rootOf}
 
 raised-is : (x y r : ℕ) → y ≡ x / 4 → IsRoot y r → IsRoot x (raised x (2 * r))
 unfolding raised

@@ -1,0 +1,2 @@
+-- The integer square root.
+pub mod Root
