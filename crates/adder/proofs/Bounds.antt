@@ -11,7 +11,8 @@ use Rattle.integer.specs.Order.{minℤ, maxℤ}
 use Rattle.integer.proofs.Order.{leZ-true, ≤ℤ-trans}
 use Rattle.integer.proofs.Bounds.{abs-bound, abs-add, abs-sub, abs-mul}
 use Rattle.text.specs.Choice.{pick}
-use Rattle.curve_set.specs.Curves.{within, pairInRange, pairsInRange, curvesInRange}
+use Rattle.curve_set.specs.Curves.{pairInRange, pairsInRange, curvesInRange}
+use Rattle.range.specs.Range.{within}
 use Rattle.curve_set.specs.declared.Pair.{Pair}
 use Rattle.curve_set.specs.declared.CurveSet.{CurveSet}
 use Rattle.adder.specs.Sums.{sumsPossible, headerFault}

@@ -3,7 +3,7 @@ use Prim.Native.Nat.{ℕ, _*_}
 use mathlib.Core.Bool.{Bool, _&&_}
 use lib.IntN.{ℤ, pos, negℤ, _+ℤ_}
 use Rattle.text.specs.Choice.{pick}
-use Rattle.curve_set.specs.Curves.{within}
+use Rattle.range.specs.Range.{within}
 use Rattle.adder.specs.declared.sums.Sums.{Sums}
 use Rattle.adder.specs.declared.sums.Header.{Header}
 

@@ -1,8 +1,9 @@
 // The sums of a snapshot before cap and factor, and its header numbers.
 ghost use mathlib.Core.Path.{_≡_};
 ghost use Rattle.text.specs.Choice.{pick};
-ghost use Rattle.curve_set.specs.Curves.{within};
+ghost use Rattle.range.specs.Range.{within};
 ghost use Rattle.adder.specs.Sums.{sumsPossible, headerFault};
+use range::is_within;
 
 // What the resources add up to, in kW: each sum is the sum of the resources' parts, so the load cap, which holds for the total, is not yet applied.
 pub struct Sums {
@@ -32,16 +33,6 @@ pub struct Header {
     // The under-generation of SCED, in kW.
     pub short: i64,
     pub count: i64,
-}
-
-// Whether a number lies from low to high.
-fn is_within(z: i64, low: i64, high: i64) -> bool
-    ensures { λ r. ⌜ r ≡ within low high z ⌝ }
-{
-    if z < low {
-        return false;
-    }
-    z <= high
 }
 
 // Whether 4096 resources can add up to these sums.

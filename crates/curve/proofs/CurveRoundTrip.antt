@@ -20,13 +20,15 @@ use Rattle.text.proofs.Choices.{and-left, and-right}
 use Rattle.number.specs.Number.{digitsOf, writtenNumber}
 use Rattle.number.specs.Field.{numberField}
 use Rattle.block.specs.Block.{readFields, writeFields, repeated}
+use Rattle.block.proofs.Readings.{reading-length}
 use Rattle.writer.specs.Promises.{AllSound, none-sound, one-sound, AllFitting, none-fitting, one-fitting, Fitting}
 use Rattle.answers.specs.declared.Block.{Block}
 use Rattle.answers.specs.declared.Block.the-variants as block
 use Rattle.writer.proofs.RoundTrip.{written-is-read-back, read-is-written-back}
 use Rattle.writer.proofs.Values.{numbers-are-sound, numbers-in-range-fit}
 use Rattle.writer.proofs.WrittenDigits.{count-one, count-more}
-use Rattle.curve_set.specs.Curves.{within, pairsInRange, vollInRange, floorInRange, curvesInRange, refusedCurves}
+use Rattle.curve_set.specs.Curves.{pairsInRange, vollInRange, floorInRange, curvesInRange, refusedCurves}
+use Rattle.range.specs.Range.{within}
 use Rattle.curve.specs.CurveText.{pairFields, curveFields, afterCurves, afterCurveBlock, readCurves, curveText}
 use Rattle.curve_values.specs.CurveValues.{pairValues, curveValues, curvesOf}
 use Rattle.curve.specs.Promises.{CurveTextIsReadBack, CurveTextIsWrittenBack, CurveTextIsShort}
@@ -34,7 +36,7 @@ use Rattle.curve_set.specs.declared.answer.Answer.the-variants as answer
 use Rattle.curve_set.specs.declared.Pair.{Pair}
 use Rattle.curve_set.specs.declared.CurveSet.{CurveSet}
 use Rattle.curve_values.proofs.CurveValues.{set-of-values, values-of-set}
-use Rattle.curve.proofs.CurveText.{fifty-lines, reading-length}
+use Rattle.curve.proofs.CurveText.{fifty-lines}
 
 -- ---- the schema is sound, and a set in range fits it
 

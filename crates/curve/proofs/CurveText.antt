@@ -2,7 +2,7 @@
 use Prim.Native.Nat.{ℕ, zero, suc, _+_, _≤_}
 use native.Mathlib.Omega.{arith}
 use mathlib.Core.Bool.{true, false}
-use mathlib.Core.List.{List, [], _∷_, _++_, append-nil}
+use mathlib.Core.List.{List, [], _++_, append-nil}
 use mathlib.Core.Path.{_≡_, refl, sym, ap, subst, _∙_}
 use lib.Dec.{leb}
 use lib.IntN.{ℤ, pos, negℤ}
@@ -17,8 +17,9 @@ use Rattle.answers.specs.Answers.{endAt, blockFault}
 use Rattle.text.specs.declared.refusal.Fault.{Fault}
 use Rattle.text.specs.declared.refusal.Refusal.{Refusal}
 use Rattle.text.proofs.Choices.{chosen, passed-over}
-use Rattle.line.specs.Field.{Field, Answer, got, refused, fieldAt}
-use Rattle.block.specs.Block.{andThen, readFields, writeFields, repeated, numberFields, keysOf, laidOver, placedFields, BlockRead}
+use Rattle.line.specs.Field.{Field}
+use Rattle.block.specs.Block.{readFields, writeFields, repeated, numberFields, keysOf, laidOver, placedFields, BlockRead}
+use Rattle.block.proofs.Readings.{reading-length}
 use Rattle.answers.specs.declared.Block.{Block}
 use Rattle.answers.specs.declared.Block.the-variants as block
 use Rattle.writer.specs.Write.{writtenNumbers, laidAt, TextWritten, BlockWritten}
@@ -69,18 +70,6 @@ unfolding curveFields repeated
 fifty-lines = refl
 
 -- ---- reading
-
--- a block that is read to its end gives as many values as it has lines
-pub reading-length : {A : Type 0} (fields : List (Field A)) (text : List ℕ) (at next : ℕ) → readFields fields text at .end ≡ block.Read next → length (readFields fields text at .values) ≡ length fields
-unfolding readFields
-reading-length [] text at next e = refl
-reading-length {A} (field ∷ fields) text at next e = go (fieldAt field text at) (λ at. reading-length fields text at next) e
-  where
-    go :
-        (answer : Answer A) → ((at : ℕ) → readFields fields text at .end ≡ block.Read next → length (readFields fields text at .values) ≡ length fields) →
-        andThen answer (λ next. readFields fields text next) .end ≡ block.Read next → length (andThen answer (λ next. readFields fields text next) .values) ≡ suc (length fields)
-    go (got value after) again e = ap suc (again after e)
-    go (refused found) again e = let z : _≡_ {A = ℕ} 0 1 = cc in absurd (omega arith)
 
 -- the lines of a text that is not too long were read as the schema says
 pub record CurveBlock (text : List ℕ) (values : List ℤ) (ended : Block) : Type 0 where

@@ -2,15 +2,12 @@
 use mathlib.Core.Bool.{Bool, true, _&&_}
 use mathlib.Core.List.{List, [], _∷_}
 use lib.IntN.{ℤ, pos, negℤ}
-use lib.Signed.{leZ}
 use lib.ListN.{replicate}
+use Rattle.range.specs.Range.{within}
 use Rattle.curve_set.specs.declared.answer.Answer.{Answer}
 use Rattle.curve_set.specs.declared.Pair.{Pair}
 use Rattle.curve_set.specs.declared.CurveSet.{CurveSet}
 use Rattle.curve_set.specs.declared.Curves.{Curves}
-
-abbrev pub within : ℤ → ℤ → ℤ → Bool
-within low high z = leZ low z && leZ z high
 
 -- VOLL and X (the minimum contingency level, the line `floor`)
 abbrev pub vollInRange : ℤ → Bool

@@ -1,8 +1,9 @@
 // The curve set: VOLL, the minimum contingency level X, and the mean and the spread of each group; the range of each value.
 ghost use mathlib.Core.Path.{_≡_};
 ghost use Rattle.curve_set.specs.Answer.{refusal};
-ghost use Rattle.curve_set.specs.Curves.{within, pairInRange, pairsInRange, curvesInRange, refusedCurves};
+ghost use Rattle.curve_set.specs.Curves.{pairInRange, pairsInRange, curvesInRange, refusedCurves};
 use crate::answer::Answer;
+use range::is_within;
 use text::refusal::Refusal;
 
 pub mod answer;
@@ -39,16 +40,6 @@ pub fn refused_curves(number: u64, line: usize) -> Curves
         },
         answer: Answer::Refused(Refusal { number, line }),
     }
-}
-
-// Whether a number lies from low to high.
-fn is_within(z: i64, low: i64, high: i64) -> bool
-    ensures { λ r. ⌜ r ≡ within low high z ⌝ }
-{
-    if z < low {
-        return false;
-    }
-    z <= high
 }
 
 // Whether the mean and the spread of a group are in their ranges.

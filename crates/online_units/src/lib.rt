@@ -1,10 +1,10 @@
 // Which units are counted on line.
 ghost use mathlib.Core.Path.{_≡_};
 ghost use Rattle.online_units.specs.Online.{isGenOrWind, isRunning, countedOnline};
+use range::wide;
 use resource::Generator;
 use resource::Kind;
 use resource::Status;
-use width::wide;
 
 fn is_gen_or_wind(kind: Kind) -> bool
     ensures { λ r. ⌜ r ≡ isGenOrWind kind ⌝ }

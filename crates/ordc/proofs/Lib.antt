@@ -1,4 +1,3 @@
 -- Laws that the proofs of several functions share.
 pub mod Groups
 pub mod Answered
-pub mod Pricing

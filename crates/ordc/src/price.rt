@@ -1,6 +1,7 @@
 // A snapshot priced on a lent curve set into six lent numbers.
 ghost use mathlib.Core.Path.{_≡_};
-ghost use Rattle.ordc.specs.Price.{pricingAnswer, pricingValues, SmallPricing, SnapshotPriced};
+ghost use Rattle.pricing.specs.Small.{SmallPricing};
+ghost use Rattle.ordc.specs.Price.{pricingAnswer, pricingValues, SnapshotPriced};
 use crate::refusal::Refusal;
 use crate::refusal::is_refusal;
 use crate::refusal::refusal_in;

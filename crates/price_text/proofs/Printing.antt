@@ -1,63 +1,31 @@
 -- What is printed, by how reading the curves and pricing the snapshot ended.
 use Prim.Native.Nat.{ℕ, suc, _+_, _-_, _≤_, _<_}
 use mathlib.Core.Path.{_≡_, refl, sym, ap, _∙_}
-use mathlib.Core.Bool.{Bool, true, false}
+use mathlib.Core.Bool.{true}
 use mathlib.Core.List.{List}
 use native.Mathlib.Numerals.{add-one}
 use native.Mathlib.Omega.{arith}
 use borrow.Author.Tests.{lt-ltb, le-ltb}
 use lib.ListN.{length, take, drop, length-drop}
 use lib.Seq.{take-all}
-use Rattle.text.specs.Choice.{pick}
 use Rattle.text.specs.Bytes.{bytes}
 use Rattle.piece.specs.Piece.{part}
 use Rattle.text.specs.declared.refusal.Refusal.{Refusal}
 use Rattle.writer.specs.Output.{refusalLines}
-use Rattle.curve_set.specs.Curves.{curvesInRange}
 use Rattle.curve.specs.CurveText.{readCurves}
 use Rattle.curve_set.specs.declared.answer.Answer.{Answer}
 use Rattle.curve_set.specs.declared.answer.Answer.the-variants as answer
 use Rattle.curve_set.specs.declared.Curves.{Curves}
 use Rattle.curve_set.specs.declared.CurveSet.{CurveSet}
-use Rattle.adder.specs.Price.{pricesOf, refusedPricing, valueOfReserve}
 use Rattle.adder.specs.declared.price.Prices.{Prices}
 use Rattle.adder.specs.declared.price.Pricing.{Pricing}
 use Rattle.adder.specs.declared.price.Pricing.the-variants as pricing
-use Rattle.adder.proofs.Bounds.{curves-bound, header-bound, value-bound}
-use Rattle.adder.proofs.Order.{shortage-online-bound, shortage-offline-bound, offline-online-value}
-use Rattle.sums.specs.Sums.{sumsOf}
-use Rattle.snapshot.specs.Snapshot.{SnapshotAnswer, read, turned-back, snapshotIn, resourcesOf}
-use Rattle.pricing.specs.Pricing.{pricedSnapshot, priced}
-use Rattle.snapshot.proofs.Readings.{snapshot-read, header-fault}
-use Rattle.price_text.specs.Program.{beforeEmptyLine, curvePart, snapshotPart, SmallPrices, priceLines, onCurves, printedPrices, priceOutput}
+use Rattle.pricing.specs.Pricing.{priced}
+use Rattle.pricing.specs.Small.{SmallPrices}
+use Rattle.pricing.proofs.Small.{priced-small}
+use Rattle.price_text.specs.Program.{beforeEmptyLine, curvePart, snapshotPart, priceLines, onCurves, printedPrices, priceOutput}
 
 -- ---- the numbers of an accepted pricing are small
-
-abbrev SmallPricing : Pricing → Type 0
-SmallPricing (pricing.Priced p) = SmallPrices p
-SmallPricing (pricing.Refused found) = Unit
-
-snapshot-small : (curves : CurveSet) (text : List ℕ) (a : SnapshotAnswer) → curvesInRange curves ≡ true → snapshotIn text ≡ a → SmallPricing (pricedSnapshot curves a)
-unfolding pricesOf
-snapshot-small curves text (turned-back found) possible e = tt
-snapshot-small curves text (read h entries) possible e =
-    let s = sumsOf (resourcesOf entries) in
-    let value : valueOfReserve curves h ≤ 4000000 = value-bound (curves-bound curves possible) (header-bound h (header-fault (snapshot-read text e .header))) in
-    let most = offline-online-value curves h s in
-    record {
-      pis = shortage-online-bound curves h s;
-      pins = shortage-offline-bound curves h s;
-      online = omega (arith, most .1, value);
-      offline = omega (arith, most .0, most .1, value);
-    }
-
-priced-small : (curves : CurveSet) (text : List ℕ) → SmallPricing (priced curves text)
-unfolding priced
-priced-small curves text = go (curvesInRange curves) refl
-  where
-    go : (b : Bool) → curvesInRange curves ≡ b → SmallPricing (pick b (pricedSnapshot curves (snapshotIn text)) (refusedPricing 1 0))
-    go true e = snapshot-small curves text (snapshotIn text) e refl
-    go false e = tt
 
 pub accepted-small : (curves : CurveSet) (text : List ℕ) {p : Pricing} {prices : Prices} → p ≡ priced curves text → p ≡ pricing.Priced prices → SmallPrices prices
 accepted-small curves text {p} {prices} e f = rw (sym e ∙ f) at (priced-small curves text)

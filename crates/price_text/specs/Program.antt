@@ -1,6 +1,6 @@
 -- Document 01, "Programs": `price` reads, in at most 65536 bytes (else 2), curve text, an empty line, a snapshot. It prints six lines, or the three lines of a
 -- refusal, and nothing else.
-use Prim.Native.Nat.{ℕ, suc, _≤_}
+use Prim.Native.Nat.{ℕ, suc}
 use mathlib.Core.Bool.{Bool, true, false}
 use mathlib.Core.List.{List, [], _∷_}
 use lib.Dec.{eqb, ltb}
@@ -32,13 +32,6 @@ curvePart input = take (beforeEmptyLine true input) input
 
 unfoldable pub snapshotPart : List ℕ → List ℕ
 snapshotPart input = drop (suc (beforeEmptyLine true input)) input
-
--- probabilities and prices that fit their lines, as those of every accepted pricing do
-pub record SmallPrices (p : Prices) : Type 0 where
-  pub pis : p .pis ≤ 1000000000
-  pub pins : p .pins ≤ 1000000000
-  pub online : p .online ≤ 4000000
-  pub offline : p .offline ≤ 4000000
 
 -- `rs rsns pis pins online offline`, each with `=` and its number, one a line
 abbrev pub priceValues : Prices → List ℤ

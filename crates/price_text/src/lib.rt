@@ -2,7 +2,8 @@
 ghost use mathlib.Core.Path.{_≡_};
 ghost use mathlib.Core.Bool.{true};
 ghost use Rattle.writer.specs.Write.{TextWritten};
-ghost use Rattle.price_text.specs.Program.{beforeEmptyLine, SmallPrices, priceValues, priceLines, priceOutput};
+ghost use Rattle.pricing.specs.Small.{SmallPrices};
+ghost use Rattle.price_text.specs.Program.{beforeEmptyLine, priceValues, priceLines, priceOutput};
 use adder::price::Prices;
 use adder::price::Pricing;
 use curve::read_curves;

@@ -2,4 +2,5 @@
 pub mod Pricing
 pub mod Raised
 pub mod Settling
+pub mod Small
 pub mod Promises

@@ -5,7 +5,7 @@ ghost use lib.IntN.{pos, natAbs, _-ℤ_, _*ℤ_};
 ghost use Rattle.normal.specs.Normal.{normal};
 ghost use Rattle.probability.specs.Probability.{onlineProbability, offlineProbability};
 use normal::distribution;
-use width::wide;
+use range::wide;
 
 // A reserve above this makes the fraction at least 500 whatever X, the mean and the spread: nothing is left of one.
 const FAR: i64 = 1099511627776;

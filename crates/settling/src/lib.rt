@@ -5,7 +5,6 @@ ghost use mathlib.Core.Path.{_≡_};
 ghost use mathlib.Core.Bool.{true};
 ghost use Prim.Native.Nat.{_≤_};
 ghost use Rattle.settling.specs.Possible.{possible, allPossible};
-ghost use Rattle.curve_set.specs.Curves.{within};
 ghost use Rattle.settling.specs.Settle.{pairOf, settledCurves, settled};
 use crate::possible::all_possible;
 use crate::possible::squares_around;
@@ -15,6 +14,7 @@ use curve_set::Pair;
 use curve_set::answer::Answer;
 use curve_set::refused_curves;
 use integer::floor_div;
+use range::is_within;
 use record::Group;
 use record::Record;
 use root::root;
@@ -32,16 +32,6 @@ fn pair_of(g: Group) -> Pair
         mean,
         spread: spread as i64,
     }
-}
-
-// Whether a number is in a range.
-fn is_within(z: i64, low: i64, high: i64) -> bool
-    ensures { λ r. ⌜ r ≡ within low high z ⌝ }
-{
-    if z < low {
-        return false;
-    }
-    z <= high
 }
 
 // The curves of a record's groups, or the first faulty group: 12 for fewer than 2 hours, then 13 for a spread of 0.

@@ -15,7 +15,7 @@ use mir.Val.{SFits}
 use Rattle.integer.proofs.Difference.{view, toℕ}
 use Rattle.integer.proofs.Order.{le-leZ}
 use Rattle.text.specs.Choice.{pick}
-use Rattle.curve_set.specs.Curves.{within}
+use Rattle.range.specs.Range.{within}
 use Rattle.adder.specs.Sums.{noSums, plus, sumsPossible}
 use Rattle.adder.specs.declared.sums.Sums.{Sums}
 use Rattle.online_units.specs.Online.{countedOnline}

@@ -6,11 +6,11 @@ ghost use Rattle.sums.specs.Sums.{partOf};
 use adder::sums::Sums;
 use offline_units::counted_offline;
 use online_units::counted_online;
+use range::wide;
 use resource::Controllable;
 use resource::Generator;
 use resource::Load;
 use resource::Resource;
-use width::wide;
 
 // A number less two others.
 fn less(x: i32, y: i32, z: i32) -> i64

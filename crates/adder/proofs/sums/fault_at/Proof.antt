@@ -1,6 +1,6 @@
 use mathlib.Core.Path.{_≡_, sym, _∙_}
 use mir.Facts.{toZ-ofZ}
-use Rattle.curve_set.specs.Curves.{within}
+use Rattle.range.specs.Range.{within}
 use Rattle.adder.proofs.sums.fault_at.Statement.{statement}
 use Rattle.adder.proofs.sums.fault_at.Tie as tie
 

@@ -5,7 +5,7 @@ use lib.Signed.{mag}
 use mir.Syntax.{w64}
 use mir.Val.{hbits, toZ, ofZ}
 use Rattle.text.specs.Choice.{pick}
-use Rattle.curve_set.specs.Curves.{within}
+use Rattle.range.specs.Range.{within}
 use borrow.Author.Needs.{sfits-of}
 use mir.Facts.{toZ-ofZ}
 use Rattle.adder.specs.Sums.{headerFault}

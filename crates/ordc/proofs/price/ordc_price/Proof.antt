@@ -7,9 +7,10 @@ use Rattle.curve_values.specs.CurveValues.{curvesOf}
 use Rattle.curve_set.specs.declared.CurveSet.{CurveSet}
 use Rattle.pricing.specs.Pricing.{priced}
 use Rattle.ordc.specs.Refusal.{refusalIn}
-use Rattle.ordc.specs.Price.{pricingAnswer, pricingValues, SmallPricing}
+use Rattle.pricing.specs.Small.{SmallPricing}
+use Rattle.ordc.specs.Price.{pricingAnswer, pricingValues}
 use Rattle.ordc.proofs.Answered.{lent-laid, lent-left}
-use Rattle.ordc.proofs.Pricing.{priced-small}
+use Rattle.pricing.proofs.Small.{priced-small}
 use Rattle.ordc.proofs.price.ordc_price.Statement.{statement}
 use Rattle.ordc.proofs.price.ordc_price.Tie as tie
 

@@ -4,7 +4,7 @@ use native.Mathlib.Omega.{arith}
 use mathlib.Core.Path.{subst}
 use mir.Facts.{toZ-ofZ}
 use Rattle.integer.proofs.Bounds.{abs-fits}
-use Rattle.ordc.specs.Price.{SmallPrices, SmallPricing}
+use Rattle.pricing.specs.Small.{SmallPrices, SmallPricing}
 use Rattle.ordc.proofs.price.pricing_values.Statement.{statement}
 use Rattle.ordc.proofs.price.pricing_values.Tie as tie
 

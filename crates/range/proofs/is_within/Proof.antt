@@ -1,9 +1,8 @@
--- `curve_set::is_within` meets its contract.
 use mir.Facts.{toZ-ofZ}
 use Rattle.integer.proofs.Order.{le-leZ, lt-leZ}
 use Rattle.integer.proofs.Signed.{less-taken, less-left}
-use Rattle.curve_set.proofs.is_within.Statement.{statement}
-use Rattle.curve_set.proofs.is_within.Tie as tie
+use Rattle.range.proofs.is_within.Statement.{statement}
+use Rattle.range.proofs.is_within.Tie as tie
 
 returns : tie.Need-returns
 returns c =

@@ -1,4 +1,4 @@
--- The numbers of a pricing are small.
+-- The numbers of every pricing are small.
 use Prim.Native.Nat.{ℕ, _≤_}
 use native.Mathlib.Omega.{arith}
 use mathlib.Core.Bool.{Bool, true, false}
@@ -12,9 +12,9 @@ use Rattle.adder.proofs.Bounds.{curves-bound, header-bound, value-bound}
 use Rattle.adder.proofs.Order.{shortage-online-bound, shortage-offline-bound, offline-online-value}
 use Rattle.sums.specs.Sums.{sumsOf}
 use Rattle.snapshot.specs.Snapshot.{SnapshotAnswer, read, turned-back, snapshotIn, resourcesOf}
 use Rattle.pricing.specs.Pricing.{pricedSnapshot, priced}
 use Rattle.snapshot.proofs.Readings.{snapshot-read, header-fault}
-use Rattle.ordc.specs.Price.{SmallPricing}
+use Rattle.pricing.specs.Small.{SmallPricing}
 
 snapshot-small : (curves : CurveSet) (text : List ℕ) (a : SnapshotAnswer) → curvesInRange curves ≡ true → snapshotIn text ≡ a → SmallPricing (pricedSnapshot curves a)
 unfolding pricesOf

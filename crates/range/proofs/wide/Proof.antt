@@ -2,8 +2,8 @@ use mathlib.Core.Path.{refl}
 use native.Mathlib.Omega.{arith}
 use mir.Facts.{toZ-ofZ, sfits-widen}
 use Rattle.integer.proofs.Bounds.{fits-abs}
-use Rattle.width.proofs.wide.Statement.{statement}
-use Rattle.width.proofs.wide.Tie as tie
+use Rattle.range.proofs.wide.Statement.{statement}
+use Rattle.range.proofs.wide.Tie as tie
 
 cast-result : tie.Need-cast-result
 cast-result c = rw (toZ-ofZ (c .fits .x)) (sfits-widen tt (c .fits .x))

@@ -1,0 +1,2 @@
+-- Ranges of numbers.
+pub mod Range
