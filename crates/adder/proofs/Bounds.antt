@@ -11,13 +11,14 @@ use Rattle.integer.specs.Order.{minℤ, maxℤ}
 use Rattle.integer.proofs.Order.{leZ-true, ≤ℤ-trans}
 use Rattle.integer.proofs.Bounds.{abs-bound, abs-add, abs-sub, abs-mul}
 use Rattle.text.specs.Choice.{pick}
+use Rattle.probability.proofs.ProbabilityOrder.{online-le, offline-le}
 use Rattle.curve_set.specs.Curves.{pairInRange, pairsInRange, curvesInRange}
 use Rattle.range.specs.Range.{within}
 use Rattle.curve_set.specs.declared.Pair.{Pair}
 use Rattle.curve_set.specs.declared.CurveSet.{CurveSet}
 use Rattle.adder.specs.Sums.{sumsPossible, headerFault}
-use Rattle.adder.specs.Reserve.{twiceLoads, twiceOnline, twiceAll}
-use Rattle.adder.specs.Price.{valueOfReserve}
+use Rattle.adder.specs.Reserve.{twiceLoads, twiceOnline, twiceAll, onlineReserve, totalReserve}
+use Rattle.adder.specs.Price.{pairFor, valueOfReserve, shortageOnline, shortageOffline}
 use Rattle.adder.specs.declared.sums.Sums.{Sums}
 use Rattle.adder.specs.declared.sums.Header.{Header}
 
@@ -165,3 +166,15 @@ pub value-bound : {curves : CurveSet} {h : Header} → CurvesBound curves → He
 unfolding valueOfReserve
 value-bound {curves} {h} c b =
     omega (arith, abs-max (pos 0) (curves .voll -ℤ h .lambda), abs-sub (curves .voll) (h .lambda), c .voll)
+
+-- ---- both probabilities are at most one
+
+pub shortage-online-bound : (curves : CurveSet) (h : Header) (s : Sums) → shortageOnline curves h s ≤ 1000000000
+unfolding shortageOnline
+shortage-online-bound curves h s =
+    online-le (onlineReserve h s) (curves .floor) (pairFor curves h .mean) (natAbs (pairFor curves h .spread))
+
+pub shortage-offline-bound : (curves : CurveSet) (h : Header) (s : Sums) → shortageOffline curves h s ≤ 1000000000
+unfolding shortageOffline
+shortage-offline-bound curves h s =
+    offline-le (totalReserve h s) (curves .floor) (pairFor curves h .mean) (natAbs (pairFor curves h .spread))

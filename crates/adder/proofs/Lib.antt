@@ -1,4 +1,2 @@
 pub mod Accepted
 pub mod Bounds
-pub mod Examples
-pub mod Order

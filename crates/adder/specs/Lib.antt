@@ -2,4 +2,3 @@
 pub mod Sums
 pub mod Reserve
 pub mod Price
-pub mod Promises

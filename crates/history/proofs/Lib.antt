@@ -2,4 +2,3 @@
 pub mod Closure
 pub mod Shift
 pub mod Booked
-pub mod Examples

@@ -11,8 +11,8 @@ use Rattle.record.specs.Record.{fresh}
 use Rattle.history.specs.Promises.{bookedAll}
 use Rattle.curve_set.specs.declared.CurveSet.{CurveSet}
 use Rattle.adder.specs.Price.{pairFor, pricesOf, refusedPricing}
-use Rattle.adder.specs.Promises.{CurvesLowered}
-use Rattle.adder.proofs.Order.{more-reserve-never-raises-prices, offline-online-value}
+use Rattle.price_order.specs.Promises.{CurvesLowered}
+use Rattle.price_order.proofs.Order.{more-reserve-never-raises-prices, offline-online-value}
 use Rattle.adder.specs.declared.sums.Header.{Header}
 use Rattle.adder.specs.declared.price.Prices.{Prices}
 use Rattle.adder.specs.declared.price.Pricing.the-variants as pricing

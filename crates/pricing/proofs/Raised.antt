@@ -8,7 +8,7 @@ use lib.Signed.{ltZ, _≤ℤ_, ≤ℤ-refl}
 use Rattle.integer.proofs.Order.{≤ℤ-of-≡, +ℤ-mono, -ℤ-mono}
 use Rattle.text.specs.Choice.{pick}
 use Rattle.adder.specs.Sums.{plus}
-use Rattle.adder.specs.Promises.{SumsNotLower}
+use Rattle.price_order.specs.Promises.{SumsNotLower}
 use Rattle.adder.specs.declared.sums.Sums.{Sums}
 use Rattle.online_units.specs.Online.{countedOnline}
 use Rattle.offline_units.specs.Offline.{countedOffline}

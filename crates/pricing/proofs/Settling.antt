@@ -29,7 +29,7 @@ use Rattle.record.specs.declared.Record.{Record}
 use Rattle.curve_set.specs.declared.Pair.{Pair}
 use Rattle.curve_set.specs.declared.CurveSet.{CurveSet}
 use Rattle.curve_set.specs.declared.Curves.{Curves}
-use Rattle.adder.specs.Promises.{CurvesLowered}
+use Rattle.price_order.specs.Promises.{CurvesLowered}
 use Rattle.adder.specs.declared.sums.Header.{Header}
 use Rattle.resource.specs.Range.{Between}
 use Rattle.snapshot.proofs.Readings.{HeaderInRange}

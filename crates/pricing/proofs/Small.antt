@@ -8,8 +8,8 @@ use Rattle.text.specs.Choice.{pick}
 use Rattle.curve_set.specs.Curves.{curvesInRange}
 use Rattle.curve_set.specs.declared.CurveSet.{CurveSet}
 use Rattle.adder.specs.Price.{pricesOf, refusedPricing, valueOfReserve}
-use Rattle.adder.proofs.Bounds.{curves-bound, header-bound, value-bound}
-use Rattle.adder.proofs.Order.{shortage-online-bound, shortage-offline-bound, offline-online-value}
+use Rattle.adder.proofs.Bounds.{curves-bound, header-bound, value-bound, shortage-online-bound, shortage-offline-bound}
+use Rattle.price_order.proofs.Order.{offline-online-value}
 use Rattle.sums.specs.Sums.{sumsOf}
 use Rattle.snapshot.specs.Snapshot.{SnapshotAnswer, read, turned-back, snapshotIn, resourcesOf}
 use Rattle.pricing.specs.Pricing.{pricedSnapshot, priced}

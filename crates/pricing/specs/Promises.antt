@@ -15,7 +15,7 @@ use Rattle.curve_set.specs.Curves.{curvesInRange}
 use Rattle.curve_set.specs.declared.answer.Answer.the-variants as answer
 use Rattle.curve_set.specs.declared.CurveSet.{CurveSet}
 use Rattle.adder.specs.Price.{valueOfReserve, pricesOf, refusedPricing}
-use Rattle.adder.specs.Promises.{HeaderRaised}
+use Rattle.price_order.specs.Promises.{HeaderRaised}
 use Rattle.adder.specs.declared.sums.Header.{Header}
 use Rattle.adder.specs.declared.price.Prices.{Prices}
 use Rattle.adder.specs.declared.price.Pricing.the-variants as pricing

@@ -8,8 +8,7 @@ use mir.Syntax.{w32, w64}
 use mir.Val.{toZ, ofZ}
 use Rattle.adder.specs.Reserve.{onlineReserve, totalReserve}
 use Rattle.adder.specs.Price.{shortageOnline, shortageOffline, pricesOf}
-use Rattle.adder.proofs.Bounds.{CurvesBound, PairBound, curves-bound, header-bound, value-bound}
-use Rattle.adder.proofs.Order.{shortage-online-bound, shortage-offline-bound}
+use Rattle.adder.proofs.Bounds.{CurvesBound, PairBound, curves-bound, header-bound, value-bound, shortage-online-bound, shortage-offline-bound}
 use Rattle.adder.proofs.price.both_prices.Statement.{statement}
 use Rattle.adder.proofs.price.both_prices.Tie as tie
 

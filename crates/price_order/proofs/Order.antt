@@ -1,4 +1,4 @@
--- More reserve never raises a price: reserves never fall with the sums, probabilities never rise with the reserve (the law of the crate curve), and rounding
+-- More reserve never raises a price: reserves never fall with the sums, probabilities never rise with the reserve (the law of the crate probability), and rounding
 -- keeps the order. Off-line ≤ on-line ≤ v, since each probability is at most 10^9.
 use Prim.Native.Nat.{ℕ, _≤_}
 use mathlib.Core.Path.{_≡_, refl}
@@ -11,13 +11,14 @@ use Rattle.integer.proofs.Floor.{floor-mono}
 use Rattle.integer.proofs.Order.{leZ-true, leZ-false, ≤ℤ-trans, +ℤ-mono, -ℤ-mono, *ℤ-mono, *ℤ-mono-pos, minℤ-mono, maxℤ-mono}
 use Rattle.integer.proofs.Difference.{view, toℕ}
 use Rattle.text.specs.Choice.{pick}
-use Rattle.probability.proofs.ProbabilityOrder.{online-le, offline-le, probabilities-never-rise}
+use Rattle.probability.proofs.ProbabilityOrder.{probabilities-never-rise}
+use Rattle.adder.proofs.Bounds.{shortage-online-bound, shortage-offline-bound}
 use Rattle.curve_set.specs.declared.CurveSet.{CurveSet}
 use Rattle.adder.specs.Reserve.{twiceLoads, twiceOnline, twiceAll, discounted, onlineReserve, totalReserve}
 use Rattle.adder.specs.Price.{pairFor, valueOfReserve, rounded, shortageOnline, shortageOffline, pricesOf}
-use Rattle.adder.specs.Promises.{SumsNotLower, HeaderRaised, CurvesLowered, MoreReserveNeverRaisesPrices, OfflineOnlineValue}
+use Rattle.price_order.specs.Promises.{SumsNotLower, HeaderRaised, CurvesLowered, MoreReserveNeverRaisesPrices, OfflineOnlineValue}
 use Rattle.adder.specs.declared.sums.Sums.{Sums}
 use Rattle.adder.specs.declared.sums.Header.{Header}
 
 -- ---- reserves never fall
 
@@ -73,18 +74,6 @@ rounded-mono v {share} {share′} k = omega (arith, mul-le-mul-left v k)
 pub rounded-bound : (v : ℕ) {share : ℕ} → share ≤ 2000000000 → rounded v share ≤ v
 unfolding rounded
 rounded-bound v k = omega (arith, mul-le-mul-left v k)
-
--- ---- each probability is at most one
-
-pub shortage-online-bound : (curves : CurveSet) (h : Header) (s : Sums) → shortageOnline curves h s ≤ 1000000000
-unfolding shortageOnline
-shortage-online-bound curves h s =
-    online-le (onlineReserve h s) (curves .floor) (pairFor curves h .mean) (natAbs (pairFor curves h .spread))
-
-pub shortage-offline-bound : (curves : CurveSet) (h : Header) (s : Sums) → shortageOffline curves h s ≤ 1000000000
-unfolding shortageOffline
-shortage-offline-bound curves h s =
-    offline-le (totalReserve h s) (curves .floor) (pairFor curves h .mean) (natAbs (pairFor curves h .spread))
 
 -- ---- the two promises
 
