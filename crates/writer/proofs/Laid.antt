@@ -6,8 +6,8 @@ use native.Mathlib.Omega.{arith}
 use mathlib.Core.List.{List, [], _∷_, _++_, append-assoc, append-nil}
 use mathlib.Core.Path.{_≡_, sym, ap, _∙_}
 use lib.ListN.{length, take, drop, getD, set, length-append, length-drop, take-append-drop}
-use lib.Seq.{length-take-le, take-at, drop-at, take-append-le, take-take, drop-drop, drop-append-add, set-split, take-suc}
-use Rattle.writer.specs.Write.{laidAt}
+use lib.Seq.{length-take-le, take-at, drop-at, take-append-le, take-take, drop-drop, drop-append-add, set-split, take-suc, take-set-le, drop-set-lt}
+use Rattle.writer.specs.Write.{laidAt, TextLaid}
 
 pub laid-none : (buffer : List ℕ) (at : ℕ) → laidAt buffer at [] ≡ buffer
 laid-none buffer at = rw (add-zero at, append-nil (take at buffer)) (take-append-drop at buffer)
@@ -53,7 +53,18 @@ pub laid-less : (buffer : List ℕ) (at : ℕ) (text : List ℕ) (byte : ℕ) �
 laid-less buffer at text byte room =
     laid-byte (laidAt buffer (at + 1) text) at byte (omega (arith, laid-length buffer (at + 1) text room)) ∙ laid-before buffer at (byte ∷ []) (omega arith) text
 
--- a text laid behind one byte
+-- a text laid, and another one where it ends
+pub laid-both : {buffer middle after : List ℕ} {at next last : ℕ} {one other : List ℕ} → TextLaid one buffer at middle next → TextLaid other middle next after last → at + length one ≤ length buffer → TextLaid (one ++ other) buffer at after last
+laid-both {buffer} {middle} {after} {at} {next} {last} {one} {other} first then room =
+    record {
+      ends = omega (arith, first .ends, then .ends, length-append one other);
+      bytes = then .bytes ∙ rw (first .ends, first .bytes) (laid-then buffer at one room other);
+    }
+
+-- a text laid over one byte, and behind it
+pub laid-over : (buffer : List ℕ) (at byte : ℕ) (text : List ℕ) → 0 < length text → laidAt (set buffer at byte) at text ≡ laidAt buffer at text
+laid-over buffer at byte text some = rw (take-set-le at buffer at byte (omega arith), drop-set-lt (at + length text) buffer at byte (omega arith))
+
 pub laid-first : (buffer : List ℕ) (at byte : ℕ) (text : List ℕ) → at < length buffer → laidAt (set buffer at byte) (at + 1) text ≡ laidAt buffer at (byte ∷ text)
 laid-first buffer at byte text within =
     ap (λ (bytes : List ℕ). laidAt bytes (at + 1) text) (laid-byte buffer at byte within) ∙ laid-then buffer at (byte ∷ []) (omega arith) text

@@ -7,33 +7,38 @@ use mathlib.Core.List.{List, [], _∷_, _++_, append-assoc, append-nil}
 use mathlib.Core.Path.{_≡_, refl, sym, ap, _∙_}
 use lib.IntN.{ℤ, pos, negsuc, natAbs}
 use lib.Dec.{leb, le→leb}
-use lib.Signed.{_≤ℤ_, _<ℤ_, leZ-yes, <ℤ-irrefl, <ℤ-≤ℤ-trans}
+use lib.Signed.{ltZ, leZ-yes, <ℤ-irrefl, <ℤ-≤ℤ-trans}
 use lib.ListN.{length, drop, getD, set, length-append, length-set, length-drop, drop-of-length-le}
 use lib.Seq.{drop-cons, length-take-le}
-use borrow.Author.Tests.{leb-true, leb-false, le-leb, lt-leb}
-use Rattle.text.specs.Choice.{pick}
+use mir.Val.{boolByte}
+use borrow.Author.Tests.{le-leb, lt-leb}
+use Rattle.integer.proofs.Order.{ltZ-true, ltZ-false}
 use Rattle.number.specs.Number.{digitsOf, writtenNumber}
 use Rattle.piece.specs.Piece.{pieceLength}
 use Rattle.piece.specs.Piece.{part}
 use Rattle.block.specs.Block.{keysOf}
-use Rattle.writer.specs.Write.{laidAt, writtenLine, writtenNumbers, lengthWithin, TextWritten}
-use Rattle.writer.specs.declared.Length.the-variants as length-of
+use Rattle.writer.specs.Write.{laidAt, signOf, lastOf, signedLine, writtenLine, writtenNumbers, TextLaid, TextWritten}
 use Rattle.writer.specs.declared.Written.the-variants as written
 use Rattle.writer.proofs.WrittenDigits.{digits-one, digits-more, count-one, count-more, count-bound, digits-some}
 use Rattle.piece.proofs.Pieces.{piece-none, piece-next, piece-fits}
-use Rattle.writer.proofs.Laid.{laid-none, laid-then, laid-more, laid-less}
+use Rattle.writer.proofs.Laid.{laid-none, laid-byte, laid-before, laid-less, laid-over, laid-first}
 
--- ---- a number by its magnitude
+-- ---- a number by its sign and magnitude
 
-pub written-negative : (z : ℤ) → z <ℤ pos 0 → writtenNumber z ≡ 45 ∷ digitsOf (natAbs z)
+pub written-signed : (z : ℤ) (negative : Bool) → ltZ z (pos 0) ≡ negative → writtenNumber z ≡ signOf negative ++ digitsOf (natAbs z)
 unfolding writtenNumber
-written-negative (pos n) h = absurd (<ℤ-irrefl (<ℤ-≤ℤ-trans h (leZ-yes (le→leb 0 n (omega arith)))))
-written-negative (negsuc n) h = refl
+written-signed (pos n) true e = absurd (<ℤ-irrefl (<ℤ-≤ℤ-trans (ltZ-true (pos n) (pos 0) e) (leZ-yes (le→leb 0 n (omega arith)))))
+written-signed (pos n) false e = refl
+written-signed (negsuc n) true e = refl
+written-signed (negsuc n) false e = absurd (ltZ-false (negsuc n) (pos 0) e .le)
 
-pub written-natural : (z : ℤ) → pos 0 ≤ℤ z → writtenNumber z ≡ digitsOf (natAbs z)
-unfolding writtenNumber
-written-natural (pos n) h = refl
-written-natural (negsuc n) h = absurd (h .le)
+pub sign-length : (negative : Bool) → length (signOf negative) ≡ boolByte negative
+sign-length true = refl
+sign-length false = refl
+
+-- the digits of a number with byte 10
+pub last-some : (n : ℕ) → 0 < length (lastOf n)
+last-some n = omega (arith, length-append (digitsOf n) (10 ∷ []))
 
 pub number-bound : (z : ℤ) → length (writtenNumber z) ≤ natAbs z / 2 + 2
 unfolding writtenNumber
@@ -74,25 +79,38 @@ module _ {buffer₀ : List ℕ} {at n : ℕ} {buffer : List ℕ} {rest end : ℕ
         long = simp length-set (left .long);
       }
 
-  pub digits-end : rest < 10 → set buffer at (48 + rest) ≡ laidAt buffer₀ at (digitsOf n)
-  digits-end l =
-      let count : length (digitsOf rest) ≡ 1 = count-one rest l in
+  pub digits-end : rest / 10 ≡ 0 → set buffer (end - 1) (48 + rest % 10) ≡ laidAt buffer₀ at (digitsOf n)
+  digits-end over =
+      let count : length (digitsOf rest) ≡ 1 = count-one rest (omega arith) in
+      let first : end - 1 ≡ at = omega (arith, left .place) in
+      let digit : rest % 10 ≡ rest = omega arith in
       let place : end ≡ at + 1 = omega (arith, left .place) in
-      ap (λ (bytes : List ℕ). set bytes at (48 + rest)) (left .laid ∙ ap (λ (k : ℕ). laidAt buffer₀ k (left .done)) place) ∙
+      rw (first, digit)
+      (ap (λ (bytes : List ℕ). set bytes at (48 + rest)) (left .laid ∙ ap (λ (k : ℕ). laidAt buffer₀ k (left .done)) place) ∙
       laid-less buffer₀ at (left .done) (48 + rest) (omega (arith, left .place, total)) ∙
-      ap (laidAt buffer₀ at) (sym (left .whole ∙ rw (digits-one rest l)))
+      ap (laidAt buffer₀ at) (sym (left .whole ∙ rw (digits-one rest (omega arith)))))
+
+-- byte 10 is laid first, the digits before it
+pub digits-ended : (buffer : List ℕ) (at n : ℕ) → at + length (lastOf n) ≤ length buffer → laidAt (set buffer (at + length (digitsOf n)) 10) at (digitsOf n) ≡ laidAt buffer at (lastOf n)
+digits-ended buffer at n room =
+    let long : length (lastOf n) ≡ length (digitsOf n) + 1 = length-append (digitsOf n) (10 ∷ []) in
+    rw (laid-byte buffer (at + length (digitsOf n)) 10 (omega arith)) (laid-before buffer at (digitsOf n) (omega arith) (10 ∷ []))
+
+-- the byte of the sign is laid first, the digits behind it or over it
+pub digits-signed : (negative : Bool) (n : ℕ) {buffer after : List ℕ} {at next : ℕ} → TextLaid (lastOf n) (set buffer at 45) (at + boolByte negative) after next → at < length buffer → TextLaid (signOf negative ++ lastOf n) buffer at after next
+digits-signed true n {buffer} {after} {at} laid within = record { ends = omega (arith, laid .ends); bytes = laid .bytes ∙ laid-first buffer at 45 (lastOf n) within }
+digits-signed false n {buffer} {after} {at} laid within =
+    let place : at + 0 ≡ at = omega arith in
+    record { ends = omega (arith, laid .ends); bytes = laid .bytes ∙ rw place (laid-over buffer at 45 (lastOf n) (last-some n)) }
 
 -- ---- one line
 
 pub line-length : (key : List ℕ) (z : ℤ) → length (writtenLine key z) ≡ length key + length (writtenNumber z) + 1
 line-length key z = length-append (key ++ writtenNumber z) (10 ∷ []) ∙ ap (λ (n : ℕ). n + 1) (length-append key (writtenNumber z))
 
-pub line-laid : (buffer : List ℕ) (at : ℕ) (key : List ℕ) (z : ℤ) → at + length (writtenLine key z) ≤ length buffer → set (laidAt (laidAt buffer at key) (at + length key) (writtenNumber z)) (at + length key + length (writtenNumber z)) 10 ≡ laidAt buffer at (writtenLine key z)
-line-laid buffer at key z room =
-    let longer : length (key ++ writtenNumber z) ≡ length key + length (writtenNumber z) = length-append key (writtenNumber z) in
-    let place : at + length key + length (writtenNumber z) ≡ at + length (key ++ writtenNumber z) = omega arith in
-    rw (laid-then buffer at key (omega (arith, line-length key z)) (writtenNumber z), place)
-    (laid-more buffer at (key ++ writtenNumber z) 10 (omega (arith, line-length key z)))
+-- by the number's sign and magnitude
+pub line-signed : (key : List ℕ) (z : ℤ) (negative : Bool) → ltZ z (pos 0) ≡ negative → writtenLine key z ≡ signedLine key negative (natAbs z)
+line-signed key z negative e = rw (written-signed z negative e) (simp append-assoc)
 
 -- ---- the lines of a block
 
@@ -148,33 +166,10 @@ module _ {keys : List ℕ} {values : List ℤ} {from i : ℕ} (passed : Passed k
         let z : ℤ = getD values i (pos 0) in
         omega (arith, length-append (passed .done) (writtenLine key z), line-length key z, length-take-le (end - from) (drop from keys) (omega (arith, length-drop from keys, passed-end)))
 
--- ---- the length that a limit allows
-
-pub length-is : (limit : ℕ) (text : List ℕ) (n : ℕ) → n ≡ length text → n ≤ limit → length-of.Is n ≡ lengthWithin limit text
-length-is limit text n e h = rw (← e, le-leb n limit h)
-
-pub length-beyond : (limit : ℕ) (text : List ℕ) → limit < length text → length-of.Beyond ≡ lengthWithin limit text
-length-beyond limit text h = rw (lt-leb (length text) limit h)
-
-module _ (limit : ℕ) (text : List ℕ) where
-  pub is-length : (n : ℕ) → length-of.Is n ≡ lengthWithin limit text → (n ≡ length text) × (n ≤ limit)
-  is-length n e = go (leb (length text) limit) refl e
-    where
-      go : (b : Bool) → leb (length text) limit ≡ b → length-of.Is n ≡ pick b (length-of.Is (length text)) length-of.Beyond → (n ≡ length text) × (n ≤ limit)
-      go true h e = let same : n ≡ length text = cc in (same, omega (arith, leb-true (length text) limit h))
-      go false h e = let z : _≡_ {A = ℕ} 0 1 = cc in absurd (omega arith)
-
-  pub is-beyond : length-of.Beyond ≡ lengthWithin limit text → limit < length text
-  is-beyond e = go (leb (length text) limit) refl e
-    where
-      go : (b : Bool) → leb (length text) limit ≡ b → length-of.Beyond ≡ pick b (length-of.Is (length text)) length-of.Beyond → limit < length text
-      go true h e = let z : _≡_ {A = ℕ} 0 1 = cc in absurd (omega arith)
-      go false h e = leb-false (length text) limit h
-
 -- ---- what writing gives
 
 pub text-short : (text buffer : List ℕ) (at : ℕ) → length buffer < at + length text → TextWritten text buffer at buffer written.Short
 text-short text buffer at h = let e = lt-leb (at + length text) (length buffer) h in record { ends = rw e; bytes = rw e }
 
-pub text-stands : (text buffer : List ℕ) (at n : ℕ) (after : List ℕ) → n ≡ length text → at + length text ≤ length buffer → after ≡ laidAt buffer at text → TextWritten text buffer at after (written.Ended (at + n))
-text-stands text buffer at n after same room laid = let e = le-leb (at + length text) (length buffer) room in record { ends = rw (e, same); bytes = rw e laid }
+pub text-stands : {text buffer : List ℕ} {at : ℕ} {after : List ℕ} {next : ℕ} → TextLaid text buffer at after next → at + length text ≤ length buffer → TextWritten text buffer at after (written.Ended next)
+text-stands {text} {buffer} {at} laid room = let e = le-leb (at + length text) (length buffer) room in record { ends = rw (e, laid .ends); bytes = rw e (laid .bytes) }

@@ -1,21 +1,30 @@
 -- Writing: the text of values by a schema of numbers, and a text laid into a lent buffer. Bytes after it stay; a buffer that is too short stays whole (14).
 use Prim.Native.Nat.{ℕ, _+_}
+use mathlib.Core.Bool.{Bool}
 use mathlib.Core.Path.{_≡_}
 use mathlib.Core.List.{List, [], _∷_, _++_}
 use lib.Dec.{leb}
 use lib.IntN.{ℤ}
 use lib.ListN.{length, take, drop}
 use Rattle.text.specs.Choice.{pick}
-use Rattle.number.specs.Number.{writtenNumber}
+use Rattle.number.specs.Number.{digitsOf, writtenNumber}
 use Rattle.block.specs.Block.{keysOf}
-use Rattle.writer.specs.declared.Length.{Length}
-use Rattle.writer.specs.declared.Length.the-variants as length-of
 use Rattle.writer.specs.declared.Written.{Written}
 use Rattle.writer.specs.declared.Written.the-variants as written
 
 -- a line: its key with `=`, the number, byte 10
 abbrev pub writtenLine : List ℕ → ℤ → List ℕ
 writtenLine key value = key ++ writtenNumber value ++ (10 ∷ [])
+
+-- the same by the number's sign and magnitude: byte 45 where it is below zero, the digits with the byte that ends the line
+abbrev pub signOf : Bool → List ℕ
+signOf negative = pick negative (45 ∷ []) []
+
+abbrev pub lastOf : ℕ → List ℕ
+lastOf n = digitsOf n ++ (10 ∷ [])
+
+abbrev pub signedLine : List ℕ → Bool → ℕ → List ℕ
+signedLine key negative n = key ++ (signOf negative ++ lastOf n)
 
 -- numbers written under their keys, one a line
 unfoldable pub writtenNumbers : List (List ℕ) → List ℤ → List ℕ
@@ -27,9 +36,10 @@ writtenNumbers (key ∷ keys) (value ∷ values) = writtenLine key value ++ writ
 abbrev pub laidAt : List ℕ → ℕ → List ℕ → List ℕ
 laidAt buffer at text = take at buffer ++ text ++ drop (at + length text) buffer
 
--- the length of a text, where it is no longer than a limit
-abbrev pub lengthWithin : ℕ → List ℕ → Length
-lengthWithin limit text = pick (leb (length text) limit) (length-of.Is (length text)) length-of.Beyond
+-- what laying a text into a buffer that has room for it gives: where the next byte stands, and the buffer after it
+pub record TextLaid (text buffer : List ℕ) (at : ℕ) (after : List ℕ) (next : ℕ) : Type 0 where
+  pub ends : next ≡ at + length text
+  pub bytes : after ≡ laidAt buffer at text
 
 -- what writing a text at a position of a buffer gives: all of it, or nothing where the buffer is too short
 pub record TextWritten (text buffer : List ℕ) (at : ℕ) (after : List ℕ) (ended : Written) : Type 0 where

@@ -1,20 +1,16 @@
 // Writing into a lent buffer: the length is known before a byte is written, and bytes after the text stay.
 ghost use mathlib.Core.Path.{_≡_};
 ghost use Prim.Native.Nat.{_≤_, _+_};
+ghost use lib.Dec.{leb};
 ghost use lib.ListN.{length};
 ghost use Rattle.number.specs.Number.{digitsOf, writtenNumber};
 ghost use Rattle.block.specs.Block.{keysOf};
-ghost use Rattle.writer.specs.Write.{laidAt, lengthWithin, writtenLine, writtenNumbers, BlockWritten};
+ghost use Rattle.writer.specs.Write.{lastOf, signedLine, writtenNumbers, TextLaid, BlockWritten};
 use integer::magnitude;
+use piece::part;
 use piece::piece_end;
 
 pub mod output;
-
-// How long a text is, where it is no longer than a limit.
-pub enum Length {
-    Is(usize),
-    Beyond,
-}
 
 // How writing ended: the text stands and ends before next, or the buffer is shorter than the text (14).
 pub enum Written {
@@ -23,13 +19,12 @@ pub enum Written {
 }
 
 // How many digits a number has.
-fn digit_count(n: u64) -> usize
+fn digit_count(mut n: u64) -> usize
     ensures { λ r. ⌜ r ≡ length (digitsOf n) ⌝ }
 {
-    let mut rest = n;
     let mut count: usize = 1;
-    while 10 <= rest {
-        rest = rest / 10;
+    while 10 <= n {
+        n = n / 10;
         count += 1;
     }
     count
@@ -39,105 +34,91 @@ fn digit_count(n: u64) -> usize
 fn number_length(z: i64) -> usize
     ensures { λ r. ⌜ r ≡ length (writtenNumber z) ⌝ }
 {
-    let digits = digit_count(magnitude(z));
-    if z < 0 {
-        return digits + 1;
-    }
-    digits
+    digit_count(magnitude(z)) + (z < 0) as usize
 }
 
-// The digits of a number, the last one first.
-fn put_digits(buffer: &mut [u8], at: usize, n: u64)
-    requires { ⌜ at + length (digitsOf n) ≤ length (now buffer) ⌝ }
-    ensures { λ _. ⌜ now (buffer .exit) ≡ laidAt (now (buffer .entry)) at (digitsOf n) ⌝ }
-{
-    let mut rest = n;
-    let mut end = at + digit_count(n);
-    while 10 <= rest {
-        end -= 1;
-        buffer[end] = (48 + rest % 10) as u8;
-        rest = rest / 10;
-    }
-    buffer[at] = (48 + rest) as u8;
-}
-
-// A number as it is written.
-fn put_number(buffer: &mut [u8], at: usize, z: i64)
-    requires { ⌜ at + length (writtenNumber z) ≤ length (now buffer) ⌝ }
-    ensures { λ _. ⌜ now (buffer .exit) ≡ laidAt (now (buffer .entry)) at (writtenNumber z) ⌝ }
-{
-    if z < 0 {
-        buffer[at] = 45;
-        put_digits(buffer, at + 1, magnitude(z));
-        return;
-    }
-    put_digits(buffer, at, magnitude(z));
-}
-
-// Bytes as they are.
-fn put_bytes(buffer: &mut [u8], at: usize, bytes: &[u8])
+// Bytes as they are; where the next byte stands.
+fn put_bytes(buffer: &mut [u8], at: usize, bytes: &[u8]) -> usize
     requires { ⌜ at + length (now bytes) ≤ length (now buffer) ⌝ }
-    ensures { λ _. ⌜ now (buffer .exit) ≡ laidAt (now (buffer .entry)) at (now (bytes .entry)) ⌝ }
+    ensures { λ r. ⌜ TextLaid (now (bytes .entry)) (now (buffer .entry)) at (now (buffer .exit)) r ⌝ }
 {
     let mut i: usize = 0;
     while i < bytes.len() {
         buffer[at + i] = bytes[i];
         i += 1;
     }
+    at + i
 }
 
-// A line, its key, the number and byte 10; where the next one starts.
-fn put_line(buffer: &mut [u8], at: usize, key: &[u8], z: i64) -> usize
-    requires { ⌜ at + length (writtenLine (now key) z) ≤ length (now buffer) ⌝ }
-    ensures { λ r. ⌜ (r ≡ at + length (writtenLine (now (key .entry)) z)) × (now (buffer .exit) ≡ laidAt (now (buffer .entry)) at (writtenLine (now (key .entry)) z)) ⌝ }
+// The digits of a number, the last one first, and byte 10 behind them; where the next line starts.
+fn put_digits(buffer: &mut [u8], at: usize, mut n: u64) -> usize
+    requires { ⌜ at + length (lastOf n) ≤ length (now buffer) ⌝ }
+    ensures { λ r. ⌜ TextLaid (lastOf n) (now (buffer .entry)) at (now (buffer .exit)) r ⌝ }
 {
-    put_bytes(buffer, at, key);
-    put_number(buffer, at + key.len(), z);
-    let end = at + key.len() + number_length(z);
+    let mut end = at + digit_count(n);
+    let next = end + 1;
     buffer[end] = 10;
-    end + 1
+    loop {
+        end -= 1;
+        buffer[end] = (48 + n % 10) as u8;
+        n = n / 10;
+        if n == 0 {
+            return next;
+        }
+    }
 }
 
-// The exact length of a block's text, counted before a byte is written, where it is no longer than a limit.
-fn block_length(keys: &[u8], values: &[i64], limit: usize) -> Length
-    ensures { λ r. ⌜ r ≡ lengthWithin limit (writtenNumbers (keysOf (now (keys .entry))) (now (values .entry))) ⌝ }
+// A line: its key, the number by its sign and its magnitude, byte 10; where the next line starts.
+fn put_line(buffer: &mut [u8], at: usize, key: &[u8], negative: bool, n: u64) -> usize
+    requires { ⌜ at + length (signedLine (now key) negative n) ≤ length (now buffer) ⌝ }
+    ensures { λ r. ⌜ TextLaid (signedLine (now (key .entry)) negative n) (now (buffer .entry)) at (now (buffer .exit)) r ⌝ }
 {
-    let mut sum: usize = 0;
+    let sign = put_bytes(buffer, at, key);
+    // The sign; a number that is not below zero has its first digit here, laid over it.
+    buffer[sign] = 45;
+    put_digits(buffer, sign + negative as usize, n)
+}
+
+// Whether a block's text is no longer than the room for it, which is known before a byte is written.
+fn block_fits(keys: &[u8], values: &[i64], mut room: usize) -> bool
+    ensures { λ r. ⌜ r ≡ leb (length (writtenNumbers (keysOf (now (keys .entry))) (now (values .entry)))) room ⌝ }
+{
     let mut from: usize = 0;
     let mut i: usize = 0;
     while i < values.len() {
         let end = piece_end(keys, from, 61);
         if end == from {
-            return Length::Is(sum);
+            return true;
         }
         let line = end - from + number_length(values[i]) + 1;
-        if limit - sum < line {
-            return Length::Beyond;
+        if room < line {
+            return false;
         }
-        sum += line;
+        room -= line;
         from = end;
         i += 1;
     }
-    Length::Is(sum)
+    true
 }
 
-// The block's lines, which the buffer has room for.
-fn put_block(buffer: &mut [u8], at: usize, keys: &[u8], values: &[i64])
+// The block's lines, which the buffer has room for; where the next line starts.
+fn put_block(buffer: &mut [u8], mut at: usize, keys: &[u8], values: &[i64]) -> usize
     requires { ⌜ at + length (writtenNumbers (keysOf (now keys)) (now values)) ≤ length (now buffer) ⌝ }
-    ensures { λ _. ⌜ now (buffer .exit) ≡ laidAt (now (buffer .entry)) at (writtenNumbers (keysOf (now (keys .entry))) (now (values .entry))) ⌝ }
+    ensures { λ r. ⌜ TextLaid (writtenNumbers (keysOf (now (keys .entry))) (now (values .entry))) (now (buffer .entry)) at (now (buffer .exit)) r ⌝ }
 {
-    let mut next = at;
     let mut from: usize = 0;
     let mut i: usize = 0;
     while i < values.len() {
         let end = piece_end(keys, from, 61);
         if end == from {
-            return;
+            return at;
         }
-        next = put_line(buffer, next, &keys[from..end], values[i]);
+        let z = values[i];
+        at = put_line(buffer, at, part(keys, from, end), z < 0, magnitude(z));
         from = end;
         i += 1;
     }
+    at
 }
 
 // A block's text at a position of a lent buffer.
@@ -147,10 +128,9 @@ pub fn write_block(buffer: &mut [u8], at: usize, keys: &[u8], values: &[i64]) ->
     if buffer.len() < at {
         return Written::Short;
     }
-    let l = block_length(keys, values, buffer.len() - at);
-    let Length::Is(length) = l else {
-        return Written::Short;
-    };
-    put_block(buffer, at, keys, values);
-    Written::Ended { next: at + length }
+    if block_fits(keys, values, buffer.len() - at) {
+        let next = put_block(buffer, at, keys, values);
+        return Written::Ended { next };
+    }
+    Written::Short
 }

@@ -9,25 +9,25 @@ use Rattle.writer.proofs.digit_count.Statement.{statement}
 use Rattle.writer.proofs.digit_count.Tie as tie
 
 abbrev Inv-loop : tie.InvT-loop
-Inv-loop n rest₀ count₀ rest count = count + length (digitsOf rest) ≡ length (digitsOf n) + 1
+Inv-loop n count₀ rest count = count + length (digitsOf rest) ≡ length (digitsOf n) + 1
 
 abbrev μ-loop : tie.MeasureT-loop
-μ-loop n rest₀ count₀ rest count = rest
+μ-loop n count₀ rest count = rest
 
 loop-holds : tie.Need-loop-holds Inv-loop μ-loop
 loop-holds c = omega arith
 
 add-count : tie.Need-add-count Inv-loop μ-loop
-add-count c = omega (arith, count-bound (c .before .before .args .n), count-more (c .before .loop .rest) (c .loop-test .taken))
+add-count c = omega (arith, count-bound (c .before .before .args .n), count-more (c .before .loop .n) (c .loop-test .taken))
 
 loop-less : tie.Need-loop-less Inv-loop μ-loop
 loop-less c = omega arith
 
 loop-again : tie.Need-loop-again Inv-loop μ-loop
-loop-again c = omega (arith, count-more (c .before .loop .rest) (c .loop-test .taken))
+loop-again c = omega (arith, count-more (c .before .loop .n) (c .loop-test .taken))
 
 returns : tie.Need-returns Inv-loop μ-loop
-returns c = omega (arith, count-one (c .before .loop .rest) (omega arith))
+returns c = omega (arith, count-one (c .before .loop .n) (omega arith))
 
 pub digit-count-spec : {M : Type 1} → statement M
 digit-count-spec =

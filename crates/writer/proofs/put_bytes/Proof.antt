@@ -44,13 +44,19 @@ loop-again c =
       simp length-set (l .inv .2),
     )
 
+add-result : tie.Need-add-result Inv-loop μ-loop
+add-result c = omega arith
+
 same-length : tie.Need-same-length Inv-loop μ-loop
 same-length c = omega arith
 
 returns : tie.Need-returns Inv-loop μ-loop
 returns c =
     let a = c .before .before .args in
-    c .before .loop .inv .1 ∙ ap (laidAt (now (a .buffer)) (a .at)) (take-all (c .before .loop .i) (now (a .bytes)) (omega arith))
+    record {
+      ends = omega arith;
+      bytes = c .before .loop .inv .1 ∙ ap (laidAt (now (a .buffer)) (a .at)) (take-all (c .before .loop .i) (now (a .bytes)) (omega arith));
+    }
 
 pub put-bytes-spec : {M : Type 1} → statement M
 put-bytes-spec =
@@ -65,5 +71,6 @@ put-bytes-spec =
     add-i
     loop-less
     loop-again
+    add-result
     same-length
     returns)

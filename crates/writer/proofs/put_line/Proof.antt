@@ -1,87 +1,70 @@
--- `writer::put_line` meets its contract: key, number and byte 10, each laid behind the one before.
+-- `writer::put_line` meets its contract: key, sign and digits, each laid behind the one before.
 use native.Mathlib.Omega.{arith}
-use Prim.Native.Nat.{ℕ, _+_, _≤_}
-use mathlib.Core.List.{List}
-use mathlib.Core.Path.{_≡_, ap, _∙_}
+use Prim.Native.Nat.{_+_, _≤_, _<_}
+use mathlib.Core.List.{_++_}
+use mathlib.Core.Path.{_∙_}
 use denote.Ref.{now}
-use lib.IntN.{ℤ}
-use lib.ListN.{length, set, length-set}
-use mir.Facts.{toZ-ofZ}
-use mir.Syntax.{w64}
-use mir.Val.{toZ, ofZ}
-use Rattle.number.specs.Number.{writtenNumber}
-use Rattle.writer.specs.Write.{laidAt}
-use Rattle.writer.proofs.Writing.{line-length, line-laid}
+use lib.ListN.{length, length-set, length-append}
+use Rattle.writer.specs.Write.{signOf, lastOf}
+use Rattle.writer.proofs.Laid.{laid-both}
+use Rattle.writer.proofs.Writing.{sign-length, last-some, digits-signed}
 use Rattle.writer.proofs.put_line.Statement.{statement}
 use Rattle.writer.proofs.put_line.Tie as tie
 
--- what the line has room for, and its number's length
-fits : (c : tie.Start) → c .args .at + (length (now (c .args .key)) + length (writtenNumber (c .args .z)) + 1) ≤ length (now (c .args .buffer))
-fits c = omega (arith, line-length (now (c .args .key)) (c .args .z))
+-- the room that sign and digits have behind the key
+fits : (c : tie.After-put-bytes) → c .put-bytes .result + (length (signOf (c .before .before .before .before .args .negative)) + length (lastOf (c .before .before .before .before .args .n))) ≤ length (c .put-bytes .last .0)
+fits c =
+    let s = c .before .before .before .before in
+    let a = s .args in
+    omega (arith, s .pre, length-append (now (a .key)) (signOf (a .negative) ++ lastOf (a .n)), length-append (signOf (a .negative)) (lastOf (a .n)), c .put-bytes .ensures .ends, c .put-bytes .kept .0)
 
-bits : (c : tie.Start) → toZ w64 (ofZ w64 (c .args .z)) ≡ c .args .z
-bits c = toZ-ofZ (c .fits .z)
+within : (c : tie.After-put-bytes) → c .put-bytes .result < length (c .put-bytes .last .0)
+within c = omega (arith, fits c, last-some (c .before .before .before .before .args .n))
 
 put-bytes-requires : tie.Need-put-bytes-requires
-put-bytes-requires c κs = omega (arith, fits (c .before .before .before))
-
-add-put-number : tie.Need-add-put-number
-add-put-number c = omega (arith, fits (c .before .before .before .before .before .before .before))
-
-put-number-requires : tie.Need-put-number-requires
-put-number-requires c κs = rw (bits (c .before .before .before .before .before .before .before)) (omega (arith, fits (c .before .before .before .before .before .before .before), c .before .before .before .put-bytes .kept .0))
-
-add-end : tie.Need-add-end
-add-end c = omega (arith, fits (c .before .before .before .before .before .before .before .before .before .before))
-
-number-length-requires : tie.Need-number-length-requires
-number-length-requires c κs = tt
-
-counted : (c : tie.After-number-length) → c .number-length .result ≡ length (writtenNumber (c .before .before .before .before .before .before .before .before .before .before .before .args .z))
-counted c = c .number-length .ensures ∙ ap (λ (z : ℤ). length (writtenNumber z)) (bits (c .before .before .before .before .before .before .before .before .before .before .before))
-
-long : (c : tie.After-number-length) → length (c .before .before .before .put-number .last .0) ≡ length (now (c .before .before .before .before .before .before .before .before .before .before .before .args .buffer))
-long c = c .before .before .before .put-number .kept .0 ∙ c .before .before .before .before .before .before .before .put-bytes .kept .0
-
-laid : (c : tie.After-number-length) → c .before .before .before .put-number .last .0 ≡ laidAt (laidAt (now (c .before .before .before .before .before .before .before .before .before .before .before .args .buffer)) (c .before .before .before .before .before .before .before .before .before .before .before .args .at) (now (c .before .before .before .before .before .before .before .before .before .before .before .args .key))) (c .before .before .before .before .before .before .before .before .before .before .before .args .at + length (now (c .before .before .before .before .before .before .before .before .before .before .before .args .key))) (writtenNumber (c .before .before .before .before .before .before .before .before .before .before .before .args .z))
-laid c =
-    let a = c .before .before .before .before .before .before .before .before .before .before .before .args in
-    c .before .before .before .put-number .ensures ∙
-    ap (λ (z : ℤ). laidAt (c .before .before .before .before .before .before .before .put-bytes .last .0) (a .at + length (now (a .key))) (writtenNumber z)) (bits (c .before .before .before .before .before .before .before .before .before .before .before)) ∙
-    ap (λ (bytes : List ℕ). laidAt bytes (a .at + length (now (a .key))) (writtenNumber (a .z))) (c .before .before .before .before .before .before .before .put-bytes .ensures)
-
-add-end-2 : tie.Need-add-end-2
-add-end-2 c = omega (arith, fits (c .before .before .before .before .before .before .before .before .before .before .before), counted c)
+put-bytes-requires c κs =
+    let s = c .before .before .before in
+    let a = s .args in
+    omega (arith, s .pre, length-append (now (a .key)) (signOf (a .negative) ++ lastOf (a .n)))
 
 slice-write-buffer : tie.Need-slice-write-buffer
-slice-write-buffer c = omega (arith, fits (c .before .before .before .before .before .before .before .before .before .before .before), counted c, long c)
+slice-write-buffer c = within (c .before .before)
 
-add-result : tie.Need-add-result
-add-result c = omega (arith, fits (c .before .before .before .before .before .before .before .before .before .before .before), counted c)
+cast-put-digits : tie.Need-cast-put-digits
+cast-put-digits c = tt
+
+add-put-digits : tie.Need-add-put-digits
+add-put-digits c =
+    let key = c .before .before .before in
+    omega (arith, fits key, sign-length (key .before .before .before .before .args .negative))
+
+put-digits-requires : tie.Need-put-digits-requires
+put-digits-requires c κs =
+    let key = c .before .before .before in
+    simp length-set (omega (arith, fits key, sign-length (key .before .before .before .before .args .negative)))
 
 same-length : tie.Need-same-length
-same-length c = simp length-set (long c)
+same-length c =
+    let digits = c .before .before in
+    let key = digits .before .before .before .before in
+    digits .put-digits .kept .0 ∙ simp length-set (key .put-bytes .kept .0)
 
 returns : tie.Need-returns
 returns c =
-    let a = c .before .before .before .before .before .before .before .before .before .before .before .args in (
-      omega (arith, counted c, line-length (now (a .key)) (a .z)),
-      ap (λ (n : ℕ). set (c .before .before .before .put-number .last .0) (a .at + length (now (a .key)) + n) 10) (counted c) ∙
-          ap (λ (bytes : List ℕ). set bytes (a .at + length (now (a .key)) + length (writtenNumber (a .z))) 10) (laid c) ∙
-          line-laid (now (a .buffer)) (a .at) (now (a .key)) (a .z) (c .before .before .before .before .before .before .before .before .before .before .before .pre),
-    )
+    let digits = c .before .before in
+    let key = digits .before .before .before .before in
+    let a = key .before .before .before .before .args in
+    laid-both (key .put-bytes .ensures) (digits-signed (a .negative) (a .n) (digits .put-digits .ensures) (within key))
+    (omega (arith, fits key, key .put-bytes .ensures .ends, key .put-bytes .kept .0))
 
 pub put-line-spec : {M : Type 1} → statement M
 put-line-spec =
     tie.close
     (tie.spec
     put-bytes-requires
-    add-put-number
-    put-number-requires
-    add-end
-    number-length-requires
-    add-end-2
     slice-write-buffer
-    add-result
+    cast-put-digits
+    add-put-digits
+    put-digits-requires
     same-length
     returns)

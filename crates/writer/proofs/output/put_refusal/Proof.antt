@@ -1,132 +1,71 @@
--- `writer::output::put_refusal` meets its contract: two lines of numbers, then the text's name, each laid behind the one before.
-use mathlib.Core.Path.{refl}
-use lib.IntN.{pos}
-use lib.ListN.{length-set}
-use Rattle.text.specs.Bytes.{bytes}
-use Rattle.writer.specs.Write.{writtenLine}
-use Rattle.writer.specs.Output.{refusalLines}
-use Rattle.writer.proofs.Refused.{refusal-length, natural-length, laid-five}
+-- `writer::output::put_refusal` meets its contract: two lines of numbers and the line of the name, each laid behind the one before.
 use native.Mathlib.Omega.{arith}
 use borrow.Author.Needs.{needs}
+use Prim.Native.Nat.{_+_, _≤_}
+use mathlib.Core.Bool.{false}
+use mathlib.Core.List.{List, [], _∷_, _++_}
+use mathlib.Core.Path.{refl, ap, _∙_}
+use denote.Ref.{now}
+use lib.ListN.{length, length-append}
+use Rattle.text.specs.Bytes.{bytes}
+use Rattle.text.specs.declared.refusal.Refusal.{Refusal}
+use Rattle.writer.specs.Write.{signedLine}
+use Rattle.writer.proofs.Laid.{laid-both}
+use Rattle.writer.proofs.Refused.{refusal-signed}
 use Rattle.writer.proofs.output.put_refusal.Statement.{statement}
 use Rattle.writer.proofs.output.put_refusal.Tie as tie
 
-slice-aggregate-put-natural : tie.Need-slice-aggregate-put-natural
-slice-aggregate-put-natural c = search needs
+-- the room that the three lines have
+fits : (c : tie.Start) → length (signedLine (bytes "refused=") false (c .args .found .number)) + (length (signedLine (bytes "line=") false (c .args .found .line)) + length (bytes "text=" ++ (now (c .args .name) ++ (10 ∷ [])))) ≤ length (now (c .args .buffer))
+fits c =
+    let one = signedLine (bytes "refused=") false (c .args .found .number) in
+    let two = signedLine (bytes "line=") false (c .args .found .line) in
+    let three = bytes "text=" ++ (now (c .args .name) ++ (10 ∷ [])) in
+    omega (arith, c .pre, ap length (refusal-signed (c .args .found) (now (c .args .name))), length-append one (two ++ three), length-append two three)
 
-put-natural-requires : tie.Need-put-natural-requires
+slice-aggregate-put-line : tie.Need-slice-aggregate-put-line
+slice-aggregate-put-line c = search needs
+
+put-line-requires : tie.Need-put-line-requires
 unfolding bytes
-put-natural-requires c κs =
-    let s = c .before .before .before .before in
-    omega (arith, s .pre, refusal-length (record { number = s .args .number; line = s .args .line }) (s .args .name .now), natural-length (bytes "refused=") (s .args .number))
+put-line-requires c κs = omega (arith, fits (c .before .before .before .before))
 
-slice-aggregate-put-natural-2 : tie.Need-slice-aggregate-put-natural-2
-slice-aggregate-put-natural-2 c = search needs
+slice-aggregate-put-line-2 : tie.Need-slice-aggregate-put-line-2
+slice-aggregate-put-line-2 c = search needs
 
-put-natural-requires-2 : tie.Need-put-natural-requires-2
+put-line-requires-2 : tie.Need-put-line-requires-2
 unfolding bytes
-put-natural-requires-2 c κs =
-    let pn1 = c .before .before .before .before in
-    let s = pn1 .before .before .before .before .before in
-    omega (arith, s .pre, refusal-length (record { number = s .args .number; line = s .args .line }) (s .args .name .now), natural-length (bytes "refused=") (s .args .number), pn1 .put-natural .ensures .0, pn1 .put-natural .kept .0, natural-length (bytes "line=") (s .args .line))
+put-line-requires-2 c κs =
+    let one = c .before .before .before .before in
+    omega (arith, fits (one .before .before .before .before .before), one .put-line .ensures .ends, one .put-line .kept .0)
 
-slice-aggregate-put-bytes : tie.Need-slice-aggregate-put-bytes
-slice-aggregate-put-bytes c = search needs
-
-put-bytes-requires : tie.Need-put-bytes-requires
+put-name-requires : tie.Need-put-name-requires
 unfolding bytes
-put-bytes-requires c κs =
-    let pn2 = c .before .before .before .before in
-    let pn1 = pn2 .before .before .before .before .before in
-    let s = pn1 .before .before .before .before .before in
-    omega (arith, s .pre, refusal-length (record { number = s .args .number; line = s .args .line }) (s .args .name .now), natural-length (bytes "refused=") (s .args .number), pn1 .put-natural .ensures .0, pn1 .put-natural .kept .0, natural-length (bytes "line=") (s .args .line), pn2 .put-natural2 .ensures .0, pn2 .put-natural2 .kept .0)
-
-add-put-bytes : tie.Need-add-put-bytes
-unfolding bytes
-add-put-bytes c =
-    let pb1 = c .before .before .before in
-    let pn2 = pb1 .before .before .before .before .before in
-    let pn1 = pn2 .before .before .before .before .before in
-    let s = pn1 .before .before .before .before .before in
-    omega (arith, s .pre, refusal-length (record { number = s .args .number; line = s .args .line }) (s .args .name .now), natural-length (bytes "refused=") (s .args .number), pn1 .put-natural .ensures .0, pn1 .put-natural .kept .0, natural-length (bytes "line=") (s .args .line), pn2 .put-natural2 .ensures .0, pn2 .put-natural2 .kept .0, pb1 .put-bytes .kept .0)
-
-put-bytes-requires-2 : tie.Need-put-bytes-requires-2
-unfolding bytes
-put-bytes-requires-2 c κs =
-    let pb1 = c .before .before .before in
-    let pn2 = pb1 .before .before .before .before .before in
-    let pn1 = pn2 .before .before .before .before .before in
-    let s = pn1 .before .before .before .before .before in
-    omega (arith, s .pre, refusal-length (record { number = s .args .number; line = s .args .line }) (s .args .name .now), natural-length (bytes "refused=") (s .args .number), pn1 .put-natural .ensures .0, pn1 .put-natural .kept .0, natural-length (bytes "line=") (s .args .line), pn2 .put-natural2 .ensures .0, pn2 .put-natural2 .kept .0, pb1 .put-bytes .kept .0)
-
-add-end : tie.Need-add-end
-unfolding bytes
-add-end c =
-    let pb2 = c .before .before in
-    let pb1 = pb2 .before .before .before .before in
-    let pn2 = pb1 .before .before .before .before .before in
-    let pn1 = pn2 .before .before .before .before .before in
-    let s = pn1 .before .before .before .before .before in
-    omega (arith, s .pre, refusal-length (record { number = s .args .number; line = s .args .line }) (s .args .name .now), natural-length (bytes "refused=") (s .args .number), pn1 .put-natural .ensures .0, pn1 .put-natural .kept .0, natural-length (bytes "line=") (s .args .line), pn2 .put-natural2 .ensures .0, pn2 .put-natural2 .kept .0, pb1 .put-bytes .kept .0, pb2 .put-bytes2 .kept .0)
-
-add-end-2 : tie.Need-add-end-2
-unfolding bytes
-add-end-2 c =
-    let pb2 = c .before .before in
-    let pb1 = pb2 .before .before .before .before in
-    let pn2 = pb1 .before .before .before .before .before in
-    let pn1 = pn2 .before .before .before .before .before in
-    let s = pn1 .before .before .before .before .before in
-    omega (arith, s .pre, refusal-length (record { number = s .args .number; line = s .args .line }) (s .args .name .now), natural-length (bytes "refused=") (s .args .number), pn1 .put-natural .ensures .0, pn1 .put-natural .kept .0, natural-length (bytes "line=") (s .args .line), pn2 .put-natural2 .ensures .0, pn2 .put-natural2 .kept .0, pb1 .put-bytes .kept .0, pb2 .put-bytes2 .kept .0)
-
-slice-write-buffer : tie.Need-slice-write-buffer
-unfolding bytes
-slice-write-buffer c =
-    let pb2 = c .before .before in
-    let pb1 = pb2 .before .before .before .before in
-    let pn2 = pb1 .before .before .before .before .before in
-    let pn1 = pn2 .before .before .before .before .before in
-    let s = pn1 .before .before .before .before .before in
-    omega (arith, s .pre, refusal-length (record { number = s .args .number; line = s .args .line }) (s .args .name .now), natural-length (bytes "refused=") (s .args .number), pn1 .put-natural .ensures .0, pn1 .put-natural .kept .0, natural-length (bytes "line=") (s .args .line), pn2 .put-natural2 .ensures .0, pn2 .put-natural2 .kept .0, pb1 .put-bytes .kept .0, pb2 .put-bytes2 .kept .0)
+put-name-requires c κs =
+    let two = c .before .before .before in
+    let one = two .before .before .before .before .before in
+    omega (arith, fits (one .before .before .before .before .before), one .put-line .ensures .ends, one .put-line .kept .0, two .put-line2 .ensures .ends, two .put-line2 .kept .0)
 
 same-length : tie.Need-same-length
-unfolding bytes
 same-length c =
-    let pb2 = c .before .before in
-    let pb1 = pb2 .before .before .before .before in
-    let pn2 = pb1 .before .before .before .before .before in
-    let pn1 = pn2 .before .before .before .before .before in
-    let s = pn1 .before .before .before .before .before in
-    simp length-set (omega (arith, s .pre, refusal-length (record { number = s .args .number; line = s .args .line }) (s .args .name .now), natural-length (bytes "refused=") (s .args .number), pn1 .put-natural .ensures .0, pn1 .put-natural .kept .0, natural-length (bytes "line=") (s .args .line), pn2 .put-natural2 .ensures .0, pn2 .put-natural2 .kept .0, pb1 .put-bytes .kept .0, pb2 .put-bytes2 .kept .0))
+    let three = c .before .before in
+    let two = three .before .before .before .before in
+    let one = two .before .before .before .before .before in
+    three .put-name .kept .0 ∙ two .put-line2 .kept .0 ∙ one .put-line .kept .0
 
 returns : tie.Need-returns
-unfolding bytes refusalLines
+unfolding bytes
 returns c =
-    let pb2 = c .before .before in
-    let pb1 = pb2 .before .before .before .before in
-    let pn2 = pb1 .before .before .before .before .before in
-    let pn1 = pn2 .before .before .before .before .before in
-    let s = pn1 .before .before .before .before .before in
-    laid-five (s .args .buffer .now) (pn1 .put-natural .last .0) (pn2 .put-natural2 .last .0) (pb1 .put-bytes .last .0) (pb2 .put-bytes2 .last .0)
-    (writtenLine (bytes "refused=") (pos (s .args .number))) (writtenLine (bytes "line=") (pos (s .args .line))) (bytes "text=") (s .args .name .now) 10 _ _ _ _
-    (pn1 .put-natural .ensures .1) (pn2 .put-natural2 .ensures .1) (pb1 .put-bytes .ensures) (pb2 .put-bytes2 .ensures)
-    (omega (arith, pn1 .put-natural .ensures .0)) (pn2 .put-natural2 .ensures .0) refl refl
-    (omega (arith, s .pre, refusal-length (record { number = s .args .number; line = s .args .line }) (s .args .name .now), natural-length (bytes "refused=") (s .args .number), pn1 .put-natural .ensures .0, pn1 .put-natural .kept .0, natural-length (bytes "line=") (s .args .line), pn2 .put-natural2 .ensures .0, pn2 .put-natural2 .kept .0, pb1 .put-bytes .kept .0, pb2 .put-bytes2 .kept .0))
+    let three = c .before .before in
+    let two = three .before .before .before .before in
+    let one = two .before .before .before .before .before in
+    let start = one .before .before .before .before .before in
+    rw (refusal-signed (start .args .found) (now (start .args .name)))
+    (laid-both (one .put-line .ensures)
+    (laid-both (two .put-line2 .ensures) (record { ends = refl; bytes = three .put-name .ensures }) (omega (arith, fits start, one .put-line .ensures .ends, one .put-line .kept .0)))
+    (omega (arith, fits start)) .bytes)
 
 pub put-refusal-spec : {M : Type 1} → statement M
 put-refusal-spec =
     tie.close
-    (tie.spec
-    slice-aggregate-put-natural
-    put-natural-requires
-    slice-aggregate-put-natural-2
-    put-natural-requires-2
-    slice-aggregate-put-bytes
-    put-bytes-requires
-    add-put-bytes
-    put-bytes-requires-2
-    add-end
-    add-end-2
-    slice-write-buffer
-    same-length
-    returns)
+    (tie.spec slice-aggregate-put-line put-line-requires slice-aggregate-put-line-2 put-line-requires-2 put-name-requires same-length returns)

@@ -1,7 +1,4 @@
 -- `writer::output::write_refusal` meets its contract: the length is known before a byte is written.
-use Prim.Native.Nat.{ℕ, _+_}
-use native.Mathlib.Nat.{zero-add}
-use lib.ListN.{length}
 use Rattle.writer.specs.Output.{refusalLines}
 use Rattle.writer.proofs.Refused.{twenty-digits, refusal-length}
 use Rattle.writer.proofs.Writing.{text-short, text-stands}
@@ -49,12 +46,10 @@ returns-2 : tie.Need-returns-2
 returns-2 c =
     let s = c .before .before .before .before .before .before .before .before .before in
     let d2 = c .before .before .before .before .before in
-    let n : ℕ = 21 + d2 .before .digit-count .result + d2 .digit-count2 .result + length (s .args .name .now) in
-    rw (zero-add n) at
-    (text-stands (refusalLines (s .args .found) (s .args .name .now)) (s .args .buffer .now) 0 n (c .before .before .put-refusal .last .0)
-    (omega (arith, refusal-length (s .args .found) (s .args .name .now), d2 .digit-count2 .ensures, d2 .before .digit-count .ensures))
-    (omega (arith, refusal-length (s .args .found) (s .args .name .now), d2 .digit-count2 .ensures, d2 .before .digit-count .ensures, c .before .before .before .before .if1 .left))
-    (c .before .before .put-refusal .ensures))
+    let long = refusal-length (s .args .found) (s .args .name .now) in
+    text-stands
+    (record { ends = omega (arith, long, d2 .digit-count2 .ensures, d2 .before .digit-count .ensures); bytes = c .before .before .put-refusal .ensures })
+    (omega (arith, long, d2 .digit-count2 .ensures, d2 .before .digit-count .ensures, c .before .before .before .before .if1 .left))
 
 pub write-refusal-spec : {M : Type 1} → statement M
 write-refusal-spec =

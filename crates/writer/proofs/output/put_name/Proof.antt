@@ -1,0 +1,56 @@
+-- `writer::output::put_name` meets its contract: the key, the name and byte 10, each laid behind the one before.
+use native.Mathlib.Omega.{arith}
+use borrow.Author.Needs.{needs}
+use Prim.Native.Nat.{_+_, _≤_}
+use mathlib.Core.List.{[], _∷_, _++_}
+use mathlib.Core.Path.{refl, _∙_}
+use denote.Ref.{now}
+use lib.ListN.{length, length-set, length-append}
+use Rattle.text.specs.Bytes.{bytes}
+use Rattle.writer.proofs.Laid.{laid-byte, laid-both}
+use Rattle.writer.proofs.output.put_name.Statement.{statement}
+use Rattle.writer.proofs.output.put_name.Tie as tie
+
+-- the room that the line has
+fits : (c : tie.Start) → c .args .at + (6 + length (now (c .args .name))) ≤ length (now (c .args .buffer))
+unfolding bytes
+fits c = omega (arith, c .pre, length-append (now (c .args .name)) (10 ∷ []))
+
+slice-aggregate-put-bytes : tie.Need-slice-aggregate-put-bytes
+slice-aggregate-put-bytes c = search needs
+
+put-bytes-requires : tie.Need-put-bytes-requires
+put-bytes-requires c κs = omega (arith, fits (c .before .before .before .before))
+
+put-bytes-requires-2 : tie.Need-put-bytes-requires-2
+put-bytes-requires-2 c κs =
+    let key = c .before .before .before in
+    omega (arith, fits (key .before .before .before .before .before), key .put-bytes .ensures .ends, key .put-bytes .kept .0)
+
+slice-write-buffer : tie.Need-slice-write-buffer
+slice-write-buffer c =
+    let name = c .before .before in
+    let key = name .before .before .before .before in
+    omega (arith, fits (key .before .before .before .before .before), key .put-bytes .ensures .ends, key .put-bytes .kept .0, name .put-bytes2 .ensures .ends, name .put-bytes2 .kept .0)
+
+same-length : tie.Need-same-length
+same-length c =
+    let name = c .before .before in
+    let key = name .before .before .before .before in
+    simp length-set (name .put-bytes2 .kept .0 ∙ key .put-bytes .kept .0)
+
+returns : tie.Need-returns
+unfolding bytes
+returns c =
+    let name = c .before .before in
+    let key = name .before .before .before .before in
+    let room = fits (key .before .before .before .before .before) in
+    laid-both (key .put-bytes .ensures)
+    (laid-both (name .put-bytes2 .ensures) (record { ends = refl; bytes = laid-byte (name .put-bytes2 .last .0) (name .put-bytes2 .result) 10 (omega (arith, room, key .put-bytes .ensures .ends, key .put-bytes .kept .0, name .put-bytes2 .ensures .ends, name .put-bytes2 .kept .0)) })
+    (omega (arith, room, key .put-bytes .ensures .ends, key .put-bytes .kept .0)))
+    (omega (arith, room)) .bytes
+
+pub put-name-spec : {M : Type 1} → statement M
+put-name-spec =
+    tie.close
+    (tie.spec slice-aggregate-put-bytes put-bytes-requires put-bytes-requires-2 slice-write-buffer same-length returns)
