@@ -1,22 +1,25 @@
 -- Laws on blocks: a schema's next line, and reading a block line by line into places.
-use Prim.Native.Nat.{ℕ, suc, _+_, _-_, _≤_, _<_}
+use Prim.Native.Nat.{ℕ, suc, _+_, _-_, _≤_, _<_, min}
 use native.Mathlib.Nat.{sub-zero}
 use native.Mathlib.Numerals.{add-one}
 use native.Mathlib.Omega.{arith}
+use mathlib.Core.Bool.{Bool, true, false}
 use mathlib.Core.List.{List, [], _∷_, _++_, append-assoc, append-nil}
 use mathlib.Core.Path.{_≡_, refl, ap, _∙_}
-use lib.IntN.{ℤ}
+use lib.Dec.{leb}
+use lib.IntN.{ℤ, pos}
 use lib.ListN.{length, take, drop, getD, set, drop-of-length-le, length-append, length-set}
 use lib.Seq.{take-nil, drop-cons, set-at}
-use Rattle.piece.specs.Piece.{pieceLength}
+use borrow.Author.Tests.{leb-true, leb-false}
+use Rattle.piece.specs.Piece.{part, pieceLength}
 use Rattle.line.specs.Field.{Field, fieldAt}
 use Rattle.number.specs.Field.{numberField, numberAnswer}
-use Rattle.block.specs.Block.{Reading, andThen, readFields, numberFields, keysOf, placedFields, BlockRead}
+use Rattle.block.specs.Block.{Reading, value, andThen, readFields, numberFields, keysOf, placedFields, BlockRead}
 use Rattle.text.specs.declared.refusal.Fault.{Fault}
 use Rattle.answers.specs.declared.NumberLine.{NumberLine}
 use Rattle.answers.specs.declared.NumberLine.the-variants as number-line
 use Rattle.answers.specs.declared.Block.the-variants as block
-use Rattle.piece.proofs.Pieces.{piece-none, piece-next, piece-fits}
+use Rattle.piece.proofs.Pieces.{piece-none, piece-next}
 use Rattle.answers.specs.Answers.{numberFault}
 
 -- the lines of a schema from a key on, i lines standing before
@@ -47,11 +50,10 @@ module _ (keys : List ℕ) (lows highs : List ℤ) (from i : ℕ) where
     fields-keys e = rw (piece-none 61 keys from end ends e)
 
     pub fields-next :
-        (d : ℤ) → (end ≡ from → ⊥) → i < length lows → i < length highs →
-        fieldsFrom keys lows highs from i ≡
-        numberField (take (end - from) (drop from keys)) (getD lows i d) (getD highs i d) ∷ fieldsFrom keys lows highs end (i + 1)
+        (end ≡ from → ⊥) → i < length lows → i < length highs →
+        fieldsFrom keys lows highs from i ≡ numberField (part keys from end) (value lows i) (value highs i) ∷ fieldsFrom keys lows highs end (i + 1)
     unfolding numberFields
-    fields-next d n l h = rw (piece-next 61 keys from end ends n, drop-cons lows i d l, drop-cons highs i d h, add-one)
+    fields-next n l h = rw (piece-next 61 keys from end ends n, drop-cons lows i (pos 0) l, drop-cons highs i (pos 0) h, add-one)
 
 -- values read before a reading
 abbrev pub inFront : List ℤ → Reading ℤ → Reading ℤ
@@ -61,7 +63,6 @@ inFront values reading = record { values = values ++ reading .values; end = read
 pub record BlockFrom (text : List ℕ) (at : ℕ) (keys : List ℕ) (lows highs places out : List ℤ) (next from i : ℕ) : Type 0 where
   pub values : List ℤ
   pub counted : length values ≡ i
-  pub within : from ≤ length keys
   pub long : length out ≡ length places
   pub laid : out ≡ values ++ drop i places
   pub rest :
@@ -70,7 +71,7 @@ pub record BlockFrom (text : List ℕ) (at : ℕ) (keys : List ℕ) (lows highs 
 
 pub block-start :
     (text : List ℕ) (at : ℕ) (keys : List ℕ) (lows highs places : List ℤ) → BlockFrom text at keys lows highs places places at 0 0
-block-start text at keys lows highs places = record { values = []; counted = refl; within = omega arith; long = refl; laid = refl; rest = rw sub-zero }
+block-start text at keys lows highs places = record { values = []; counted = refl; long = refl; laid = refl; rest = rw sub-zero }
 
 module _
     {text : List ℕ} {at : ℕ} {keys : List ℕ} {lows highs places out : List ℤ} {next from i : ℕ}
@@ -79,14 +80,16 @@ module _
   unfolding readFields
   block-over e = record { ends = rw (so-far .rest, e); filled = rw (so-far .rest, e, append-nil, so-far .counted) (so-far .laid) }
 
-  pub block-places : length places ≤ i → BlockRead text at keys lows highs places out (block.Read next)
-  block-places h = let e : length places - i ≡ 0 = omega arith in block-over (rw e)
-
-  pub block-lows : length lows ≤ i → BlockRead text at keys lows highs places out (block.Read next)
-  block-lows h = block-over (rw (fields-lows keys lows highs from i h, take-nil))
-
-  pub block-highs : length highs ≤ i → BlockRead text at keys lows highs places out (block.Read next)
-  block-highs h = block-over (rw (fields-highs keys lows highs from i h, take-nil))
+  -- the places, the lower or the upper bounds have run out
+  pub block-full : min (length places) (min (length lows) (length highs)) ≤ i → BlockRead text at keys lows highs places out (block.Read next)
+  block-full h = block-over (go (leb (length places) i) refl (leb (length lows) i) refl)
+    where
+      go :
+          (p : Bool) → leb (length places) i ≡ p → (l : Bool) → leb (length lows) i ≡ l → take (length places - i) (fieldsFrom keys lows highs from i) ≡ []
+      go true p l e = let none : length places - i ≡ 0 = omega (arith, leb-true (length places) i p) in rw none
+      go false p true e = rw (fields-lows keys lows highs from i (leb-true (length lows) i e), take-nil)
+      go false p false e =
+          rw (fields-highs keys lows highs from i (omega (arith, leb-false (length places) i p, leb-false (length lows) i e)), take-nil)
 
   module _ {end : ℕ} (ends : end ≡ from + pieceLength 61 (drop from keys)) where
     pub block-keys : end ≡ from → BlockRead text at keys lows highs places out (block.Read next)
@@ -94,16 +97,15 @@ module _
 
     -- one more line is due, and is read as a number within its bounds
     module _
-        {low high : ℤ} (line : NumberLine) (d : ℤ) (n : end ≡ from → ⊥)
-        (p : i < length places) (l : i < length lows) (h : i < length highs) (low-is : low ≡ getD lows i d) (high-is : high ≡ getD highs i d)
-        (answers : numberAnswer line ≡ fieldAt (numberField (take (end - from) (drop from keys)) low high) text next) where
+        {key : List ℕ} (line : NumberLine) (n : end ≡ from → ⊥) (left : i < min (length places) (min (length lows) (length highs)))
+        (key-is : key ≡ part keys from end) (answers : numberAnswer line ≡ fieldAt (numberField key (value lows i) (value highs i)) text next) where
       due :
           readFields (placedFields keys lows highs places) text at ≡
           inFront (so-far .values) (andThen (numberAnswer line) (λ after. readFields (take (length places - (i + 1)) (fieldsFrom keys lows highs end (i + 1))) text after))
       unfolding readFields
       due =
           let e : length places - i ≡ suc (length places - (i + 1)) = omega arith in
-          rw (so-far .rest, fields-next keys lows highs from i end ends d n l h, e, answers, low-is, high-is)
+          rw (so-far .rest, fields-next keys lows highs from i end ends n (omega arith) (omega arith), e, answers, key-is)
 
       pub block-refused :
           {fault found : Fault} → line ≡ number-line.Refused fault → found ≡ numberFault line →
@@ -117,13 +119,12 @@ module _
           record {
             values = so-far .values ++ (value ∷ []);
             counted = length-append (so-far .values) (value ∷ []) ∙ ap (λ (n : ℕ). n + 1) (so-far .counted);
-            within = piece-fits 61 keys from end ends (so-far .within);
             long = length-set out i value ∙ so-far .long;
             laid =
                 rw (
                   so-far .laid,
-                  drop-cons places i d p,
-                  set-at (so-far .values) (getD places i d) (drop (suc i) places) value i (so-far .counted),
+                  drop-cons places i (pos 0) (omega arith),
+                  set-at (so-far .values) (getD places i (pos 0)) (drop (suc i) places) value i (so-far .counted),
                   append-assoc,
                   add-one,
                 );
