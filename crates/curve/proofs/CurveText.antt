@@ -27,7 +27,7 @@ use Rattle.writer.specs.declared.Written.{Written}
 use Rattle.writer.specs.declared.Written.the-variants as written
 use Rattle.writer.proofs.Values.{written-by-schema}
 use Rattle.curve_set.specs.Curves.{curvesInRange, evenCurves, refusedCurves}
-use Rattle.curve.specs.CurveText.{curveFields, afterCurveBlock, readCurves, curveText, writingCurves, writtenBuffer, CurvesWritten}
+use Rattle.curve.specs.CurveText.{curveFields, endOfLines, CurveLines, afterCurves, afterCurveBlock, readCurves, curveText, writingCurves, writtenBuffer, CurvesWritten}
 use Rattle.curve_values.specs.CurveValues.{pairValues, curveValues, curvesOf}
 use Rattle.curve_set.specs.declared.answer.Answer.the-variants as answer
 use Rattle.curve_set.specs.declared.CurveSet.{CurveSet}
@@ -71,22 +71,20 @@ fifty-lines = refl
 
 -- ---- reading
 
--- the lines of a text that is not too long were read as the schema says
+-- the lines of a text were read as the schema says
 pub record CurveBlock (text : List ℕ) (values : List ℤ) (ended : Block) : Type 0 where
-  pub short : length text ≤ 4096
   pub ends : ended ≡ readFields curveFields text 0 .end
   pub read : (next : ℕ) → ended ≡ block.Read next → values ≡ readFields curveFields text 0 .values
 
 pub curve-block :
     {text : List ℕ} {lows highs places values : List ℤ} {ended : Block} → BlockRead text 0 curveKeys lows highs places values ended →
-    lows ≡ curveLows → highs ≡ curveHighs → length places ≡ 50 → length text ≤ 4096 → CurveBlock text values ended
-curve-block {text} {lows} {highs} {places} {values} {ended} given lows-are highs-are fifty short =
+    lows ≡ curveLows → highs ≡ curveHighs → length places ≡ 50 → CurveBlock text values ended
+curve-block {text} {lows} {highs} {places} {values} {ended} given lows-are highs-are fifty =
     let placed : placedFields curveKeys lows highs places ≡ curveFields = rw (lows-are, highs-are, fifty, curve-schema) (take-all 50 curveFields (omega (arith, fifty-lines))) in
     let ends : ended ≡ readFields curveFields text 0 .end = given .ends ∙ ap (λ (fields : List (Field ℤ)). readFields fields text 0 .end) placed in
     let read : List ℤ = readFields curveFields text 0 .values in
     let filled : values ≡ laidOver read places = given .filled ∙ ap (λ (fields : List (Field ℤ)). laidOver (readFields fields text 0 .values) places) placed in
     record {
-      short = short;
       ends = ends;
       read = λ next e.
           (let count : length read ≡ 50 = reading-length curveFields text 0 next (sym ends ∙ e) ∙ fifty-lines in
@@ -94,24 +92,35 @@ curve-block {text} {lows} {highs} {places} {values} {ended} given lows-are highs
     }
 
 module _ {text : List ℕ} {values : List ℤ} {ended : Block} (given : CurveBlock text values ended) where
-  decided : readCurves text ≡ afterCurveBlock text (readFields curveFields text 0 .values) ended
-  unfolding readCurves
-  decided = rw (le-ltb 4096 (length text) (given .short), ← (given .ends))
+  pub line-refused : {found : Fault} → ended ≡ block.Refused found → CurveLines text values ended
+  line-refused told =
+      record {
+        ends = rw (← (given .ends), told);
+        read = λ stop e. (let z : _≡_ {A = ℕ} 0 1 = cc in absurd (omega arith));
+      }
 
-  pub block-refused :
+  pub lines-read : {next : ℕ} {at-end : Block} → ended ≡ block.Read next → at-end ≡ endAt text next → CurveLines text values at-end
+  lines-read {next} told at-end-is = record { ends = at-end-is ∙ rw (← (given .ends), told); read = λ stop e. given .read next told }
+
+module _ {text : List ℕ} {values : List ℤ} {ended : Block} (short : length text ≤ 4096) (given : CurveLines text values ended) where
+  decided : readCurves text ≡ afterCurves text (readFields curveFields text 0 .values) ended
+  unfolding readCurves
+  decided = rw (le-ltb 4096 (length text) short, given .ends) (go (readFields curveFields text 0 .end))
+    where
+      go :
+          (ended : Block) →
+          afterCurveBlock text (readFields curveFields text 0 .values) ended ≡ afterCurves text (readFields curveFields text 0 .values) (endOfLines text ended)
+      go (block.Refused found) = refl
+      go (block.Read next) = refl
+
+  pub text-refused :
       {found fault : Fault} {refusal : Refusal} {curves : Curves} → ended ≡ block.Refused found → fault ≡ blockFault ended → refusal ≡ refusalOf text fault →
       curves ≡ refusedCurves (answer.Refused refusal) → curves ≡ readCurves text
-  block-refused told fault-is refusal-is curves-is = rw (curves-is, refusal-is, fault-is, decided, told)
-
-  pub end-refused :
-      {next : ℕ} {at-end : Block} {found fault : Fault} {refusal : Refusal} {curves : Curves} → ended ≡ block.Read next → at-end ≡ endAt text next →
-      at-end ≡ block.Refused found → fault ≡ blockFault at-end → refusal ≡ refusalOf text fault → curves ≡ refusedCurves (answer.Refused refusal) → curves ≡ readCurves text
-  end-refused told at-end-is end-told fault-is refusal-is curves-is = rw (curves-is, refusal-is, fault-is, decided, told, ← at-end-is, end-told)
+  text-refused told fault-is refusal-is curves-is = rw (curves-is, refusal-is, fault-is, decided, told)
 
   pub text-accepted :
-      {next stop : ℕ} {at-end : Block} {set : CurveSet} → ended ≡ block.Read next → at-end ≡ endAt text next → at-end ≡ block.Read stop → set ≡ curvesOf values →
-      record { set = set; answer = answer.Accepted } ≡ readCurves text
-  text-accepted {next} told at-end-is end-told set-is = rw (set-is, decided, told, ← at-end-is, end-told, given .read next told)
+      {stop : ℕ} {set : CurveSet} → ended ≡ block.Read stop → set ≡ curvesOf values → record { set = set; answer = answer.Accepted } ≡ readCurves text
+  text-accepted {stop} told set-is = rw (set-is, decided, told, given .read stop told)
 
 -- ---- writing
 

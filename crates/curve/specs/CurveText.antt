@@ -38,6 +38,16 @@ curveFields =
     ∷ numberField (bytes "floor=") (pos 0) (pos 20000000)
     ∷ repeated 24 pairFields
 
+-- where the lines end, or what was refused: a line, or bytes after the last one
+abbrev pub endOfLines : List ℕ → Block → Block
+endOfLines text (block.Refused found) = block.Refused found
+endOfLines text (block.Read next) = endAt text next
+
+-- the lines of a curve text and its end: how reading ended, and the values where nothing was refused
+pub record CurveLines (text : List ℕ) (values : List ℤ) (ended : Block) : Type 0 where
+  pub ends : ended ≡ endOfLines text (readFields curveFields text 0 .end)
+  pub read : (stop : ℕ) → ended ≡ block.Read stop → values ≡ readFields curveFields text 0 .values
+
 -- ---- reading: 2 above 4096 bytes, the lines with 3 to 7, then 9
 
 abbrev pub afterCurves : List ℕ → List ℤ → Block → Curves

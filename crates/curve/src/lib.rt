@@ -2,7 +2,7 @@
 ghost use mathlib.Core.Path.{_≡_};
 ghost use Rattle.curve_values.specs.CurveValues.{curveValues};
 ghost use Rattle.curve_set.specs.Curves.{evenCurves};
-ghost use Rattle.curve.specs.CurveText.{readCurves, CurvesWritten};
+ghost use Rattle.curve.specs.CurveText.{CurveLines, readCurves, CurvesWritten};
 use answers::Block;
 use answers::block_fault;
 use answers::end_at;
@@ -37,6 +37,19 @@ fn bounds(voll: i64, floor: i64, mean: i64, spread: i64) -> [i64; 50]
     values_of(CurveSet { voll, floor, pairs })
 }
 
+// The lines of a curve text and its end: the values of the lines, and where reading stopped or what was refused.
+fn read_lines(text: &[u8], values: &mut [i64; 50]) -> Block
+    ensures { λ r. ⌜ CurveLines (now (text .entry)) (now (values .exit)) r ⌝ }
+{
+    let lows = bounds(0, 0, -20000000, 1);
+    let highs = bounds(2000000, 20000000, 20000000, 20000000);
+    let b = read_block(text, 0, &KEYS, &lows, &highs, values);
+    let Block::Read { next } = b else {
+        return b;
+    };
+    end_at(text, next)
+}
+
 // A curve text read.
 pub fn read_curves(text: &[u8]) -> Curves
     ensures { λ r. ⌜ r ≡ readCurves (now (text .entry)) ⌝ }
@@ -44,17 +57,10 @@ pub fn read_curves(text: &[u8]) -> Curves
     if 4096 < text.len() {
         return refused_curves(2, 0);
     }
-    let lows = bounds(0, 0, -20000000, 1);
-    let highs = bounds(2000000, 20000000, 20000000, 20000000);
     let mut values = [0i64; 50];
-    let b = read_block(text, 0, &KEYS, &lows, &highs, &mut values);
-    let Block::Read { next } = b else {
+    let b = read_lines(text, &mut values);
+    let Block::Read { next: _ } = b else {
         let found = refusal_of(text, block_fault(b));
-        return refused_curves(found.number, found.line);
-    };
-    let e = end_at(text, next);
-    let Block::Read { next: _ } = e else {
-        let found = refusal_of(text, block_fault(e));
         return refused_curves(found.number, found.line);
     };
     Curves {
