@@ -77,6 +77,13 @@ unfolding allDigits
 other-plain byte [] n = and-true (isDigit byte)
 other-plain byte (next ∷ rest) n = rw (ne-eqb byte 48 n)
 
+-- one byte alone has no leading zero
+pub plain-one : (s : List ℕ) → length s ≡ 1 → plain s ≡ allDigits s
+unfolding allDigits
+plain-one [] l = absurd (omega arith)
+plain-one (byte ∷ []) l = and-true (isDigit byte)
+plain-one (byte ∷ (next ∷ rest)) l = absurd (omega arith)
+
 pub plain-digits : (s : List ℕ) → plain s ≡ true → allDigits s ≡ true
 unfolding allDigits
 plain-digits [] p = cc

@@ -3,15 +3,15 @@ use Prim.Native.Nat.{ℕ, zero, suc, _+_, _-_, _*_, _≤_, _<_, min}
 use native.Mathlib.Nat.{add-sub-cancel-left}
 use native.Mathlib.Numerals.{add-one}
 use native.Mathlib.Omega.{arith}
-use mathlib.Core.Bool.{true, false}
+use mathlib.Core.Bool.{Bool, true, false}
 use mathlib.Core.List.{List, [], _∷_, _++_}
 use mathlib.Core.Option.{some}
 use mathlib.Core.Path.{_≡_, refl, ap, sym, _∙_}
-use lib.Dec.{leb}
+use lib.Dec.{leb, ltb}
 use lib.IntN.{ℤ, pos}
 use lib.ListN.{length, take, drop, getD, length-take, length-drop, take-append-drop}
 use lib.Seq.{drop-drop, take-suc, take-all, getD-take}
-use borrow.Author.Tests.{le-leb, leb-true, eq-eqb, ne-eqb}
+use borrow.Author.Tests.{le-leb, leb-true, ltb-true, ltb-false, eq-eqb, ne-eqb}
 use Rattle.text.proofs.Choices.{and-left, and-right}
 use Rattle.line.specs.Line.{lineLength, begins, lineAt}
 use Rattle.piece.specs.Piece.{part}
@@ -21,9 +21,10 @@ use Rattle.line.proofs.Lines.{line-after, value-line}
 use Rattle.piece.proofs.Parts.{part-whole}
 use Rattle.line.proofs.Fields.{field-value}
 use Rattle.number.specs.Number.{isDigit, allDigits, valueOf, plain, numberOf, inRange, ranged, numberIn}
+use Rattle.number.specs.Digits.{DigitsRead, NaturalRead}
 use Rattle.number.specs.Field.{numberField, judgedNumber}
 use Rattle.number.specs.declared.Number.{Number}
-use Rattle.number.proofs.Digits.{digits-low, digits-high, digit-first, value-on, value-grows, plain-zero, plain-other}
+use Rattle.number.proofs.Digits.{digit-first, plain-digits, plain-one, plain-zero, plain-other}
 use Rattle.number.proofs.Numbers.{numberOf-plain}
 
 digits-join : (xs ys : List ℕ) → allDigits xs ≡ true → allDigits (xs ++ ys) ≡ allDigits ys
@@ -36,55 +37,88 @@ unfolding valueOf
 value-join front [] ys = refl
 value-join front (byte ∷ xs) ys = value-join (front * 10 + (byte - 48)) xs ys
 
--- the first i bytes are digits of a value that a machine number holds
-pub record DigitsRead (s : List ℕ) (i value : ℕ) : Type 0 where
-  pub within : i ≤ length s
-  pub digits : allDigits (take i s) ≡ true
-  pub worth : value ≡ valueOf 0 (take i s)
-  pub held : value ≤ 9223372036854775809
-
--- why no more are read
-abbrev pub Stopped : List ℕ → ℕ → ℕ → Type 0
-Stopped s i value = i < length s → allDigits (drop i s) ≡ true → 922337203685477580 < value
-
 pub digits-none : (s : List ℕ) → DigitsRead s 0 0
 unfolding allDigits valueOf
-digits-none s = record { within = omega arith; digits = refl; worth = refl; held = omega arith }
+digits-none s = record { within = omega arith; digits = refl; worth = omega arith }
 
-module _ (s : List ℕ) (i value : ℕ) (h : i < length s) where
-  pub stopped-low : getD s i 0 < 48 → Stopped s i value
-  stopped-low l within digits = let z : true ≡ false = sym digits ∙ digits-low s i h l in let n : _≡_ {A = ℕ} 0 1 = cc in omega arith
-
-  pub stopped-high : 48 ≤ getD s i 0 → 57 < getD s i 0 → Stopped s i value
-  stopped-high l u within digits = let z : true ≡ false = sym digits ∙ digits-high s i h l u in let n : _≡_ {A = ℕ} 0 1 = cc in omega arith
-
-  pub one-digit-more :
-      DigitsRead s i value → 48 ≤ getD s i 0 → getD s i 0 ≤ 57 → value ≤ 922337203685477580 →
-      DigitsRead s (i + 1) (value * 10 + (getD s i 0 - 48))
-  unfolding allDigits valueOf
-  one-digit-more read l u small =
-      record {
-        within = omega arith;
-        digits = rw (add-one, take-suc s i 0 h, digits-join (take i s) (getD s i 0 ∷ []) (read .digits), le-leb 48 (getD s i 0) l, le-leb (getD s i 0) 57 u);
-        worth = rw (add-one, take-suc s i 0 h, value-join 0 (take i s) (getD s i 0 ∷ []), ← read .worth);
-        held = omega arith;
-      }
+pub one-digit-more :
+    (s : List ℕ) (i value more : ℕ) → i < length s → DigitsRead s i value → 48 ≤ getD s i 0 → getD s i 0 ≤ 57 →
+    more ≡ min (value * 10 + (getD s i 0 - 48)) 9223372036854775809 → DigitsRead s (i + 1) more
+unfolding allDigits valueOf
+one-digit-more s i value more h read l u more-is =
+    let worth : valueOf 0 (take (i + 1) s) ≡ valueOf 0 (take i s) * 10 + (getD s i 0 - 48) = rw (add-one, take-suc s i 0 h) (value-join 0 (take i s) (getD s i 0 ∷ [])) in
+    record {
+      within = omega arith;
+      digits = rw (add-one, take-suc s i 0 h, digits-join (take i s) (getD s i 0 ∷ []) (read .digits), le-leb 48 (getD s i 0) l, le-leb (getD s i 0) 57 u);
+      worth = omega (arith, worth, read .worth);
+    }
 
 pub part-length : (s : List ℕ) (i : ℕ) → length (part s i (length s)) ≡ length s - i
 part-length s i = rw (part-whole s i) (length-drop i s)
 
--- the whole value of digits, from those that were read
-module _ (s : List ℕ) (i value : ℕ) (read : DigitsRead s i value) where
-  pub value-whole : length s ≤ i → value ≡ min (valueOf 0 s) 9223372036854775809
-  value-whole h = omega (arith, read .held, read .worth ∙ ap (valueOf 0) (take-all i s h))
+-- digits with no leading zero, from digits that were read as far as they go
+module _ (s : List ℕ) (n value : ℕ) (read : DigitsRead s n value) (stopped : n < length s → allDigits (drop n s) ≡ false) where
+  whole-read : plain s ≡ true → n ≡ length s
+  whole-read p = go (ltb n (length s)) refl
+    where
+      rest : allDigits (drop n s) ≡ true
+      rest = sym (digits-join (take n s) (drop n s) (read .digits)) ∙ ap allDigits (take-append-drop n s) ∙ plain-digits s p
 
-  pub value-limit : allDigits s ≡ true → i < length s → Stopped s i value → 9223372036854775809 ≡ min (valueOf 0 s) 9223372036854775809
-  value-limit all h stopped =
-      let parts : valueOf 0 s ≡ valueOf value (drop i s) =
-      ap (valueOf 0) (sym (take-append-drop i s)) ∙ value-join 0 (take i s) (drop i s) ∙ ap (λ (v : ℕ). valueOf v (drop i s)) (sym (read .worth)) in
-      let rest : allDigits (drop i s) ≡ true =
-      sym (digits-join (take i s) (drop i s) (read .digits)) ∙ ap allDigits (take-append-drop i s) ∙ all in
-      omega (arith, parts, stopped h rest, value-on s i value h, value-grows (value * 10 + (getD s i 0 - 48)) (drop (i + 1) s))
+      go : (b : Bool) → ltb n (length s) ≡ b → n ≡ length s
+      go true e = let z : true ≡ false = sym rest ∙ stopped (ltb-true n (length s) e) in let n : _≡_ {A = ℕ} 0 1 = cc in absurd (omega arith)
+      go false e = omega (arith, ltb-false n (length s) e, read .within)
+
+  pub natural-few : n ≤ 1 → NaturalRead s n value
+  natural-few few =
+      record {
+        read = read;
+        well-written = λ any. (plain-one (take n s) (omega (arith, length-take n s, read .within)) ∙ read .digits);
+        whole = whole-read;
+      }
+
+  pub natural-many : 1 < n → (getD s 0 0 ≡ 48 → ⊥) → NaturalRead s n value
+  natural-many many first =
+      record {
+        read = read;
+        well-written = λ any. (plain-other (take n s) 0 (omega (arith, length-take n s, read .within)) (λ q. first (sym (getD-take n s 0 0 any) ∙ q)) ∙ read .digits);
+        whole = whole-read;
+      }
+
+  pub natural-none : 1 < n → getD s 0 0 ≡ 48 → NaturalRead s 0 0
+  natural-none many first =
+      record {
+        read = digits-none s;
+        well-written = λ any. absurd (omega arith);
+        whole = λ p.
+            (let z : true ≡ false = sym p ∙ plain-zero s 0 (omega (arith, read .within)) first ∙ ne-eqb 1 (length s) (λ q. omega (arith, read .within)) in
+            let n : _≡_ {A = ℕ} 0 1 = cc in
+            absurd (omega arith));
+      }
+
+-- what a number's bytes are worth, from the digits that were read
+module _ (s : List ℕ) (n value : ℕ) (number : NaturalRead s n value) where
+  pub natural-broken : n < length s → plain s ≡ false
+  natural-broken h = go (plain s) refl
+    where
+      go : (b : Bool) → plain s ≡ b → b ≡ false
+      go true p = absurd (omega (arith, number .whole p))
+      go false p = refl
+
+  module _ (over : length s ≤ n) where
+    pub natural-value : value ≡ min (valueOf 0 s) 9223372036854775809
+    natural-value = rw (take-all n s over) at (number .read .worth)
+
+    pub natural-plain : 0 < length s → plain s ≡ true
+    natural-plain any = rw (take-all n s over) at (number .well-written (omega arith))
+
+    -- no bytes have no value
+    pub natural-some : (value ≡ 0 → ⊥) → 0 < length s
+    unfolding valueOf
+    natural-some not-zero = go s natural-value
+      where
+        go : (s : List ℕ) → value ≡ min (valueOf 0 s) 9223372036854775809 → 0 < length s
+        go [] is = absurd (not-zero (omega arith))
+        go (byte ∷ rest) is = omega arith
 
 -- digits up to byte 10 are a line
 digits-line : (n : ℕ) (s : List ℕ) → n < length s → allDigits (take n s) ≡ true → getD s n 0 ≡ 10 → lineLength s ≡ n
@@ -102,23 +136,15 @@ natural-of s any digits p = numberOf-plain s any (λ e. omega (arith, digit-firs
 abbrev pub NaturalLine : List ℕ → ℕ → ℕ → Type 0
 NaturalLine s n value = (n < length s) × (lineLength s ≡ n) × (numberOf (take n s) ≡ some (pos value)) × (value ≤ 9223372036854775807)
 
--- digits with no leading zero
-module _ (s : List ℕ) (n value : ℕ) (read : DigitsRead s n value) (h : n < length s) (e : getD s n 0 ≡ 10) (small : value ≤ 9223372036854775807) where
-  natural-line : 0 < n → plain (take n s) ≡ true → NaturalLine s n value
-  natural-line any p = (
-    h,
-    digits-line n s h (read .digits) e,
-    rw (read .worth) (natural-of (take n s) (omega (arith, length-take n s)) (read .digits) p),
-    small,
-  )
-
-  pub natural-other : (getD s 0 0 ≡ 48 → ⊥) → 0 < n → NaturalLine s n value
-  natural-other first any =
-      natural-line any (plain-other (take n s) 0 (omega (arith, length-take n s)) (λ q. first (sym (getD-take n s 0 0 any) ∙ q)) ∙ read .digits)
-
-  pub natural-zero : getD s 0 0 ≡ 48 → n ≤ 1 → 0 < n → NaturalLine s n value
-  natural-zero first one any =
-      natural-line any (plain-zero (take n s) 0 (omega (arith, length-take n s)) (getD-take n s 0 0 any ∙ first) ∙ eq-eqb 1 (length (take n s)) (omega (arith, length-take n s)))
+pub natural-line :
+    (s : List ℕ) (n value : ℕ) → NaturalRead s n value → n < length s → getD s n 0 ≡ 10 → value ≤ 9223372036854775807 → 0 < n → NaturalLine s n value
+natural-line s n value number h e small any =
+    let worth : value ≡ valueOf 0 (take n s) = omega (arith, number .read .worth) in (
+      h,
+      digits-line n s h (number .read .digits) e,
+      rw worth (natural-of (take n s) (omega (arith, length-take n s)) (number .read .digits) (number .well-written any)),
+      small,
+    )
 
 -- under a key
 abbrev pub NaturalUnder : List ℕ → List ℕ → ℕ → ℕ → Type 0

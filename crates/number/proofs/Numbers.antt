@@ -4,7 +4,7 @@ use native.Mathlib.Nat.{zero-add}
 use native.Mathlib.Omega.{arith}
 use mathlib.Core.Bool.{Bool, true, false, not, _&&_}
 use mathlib.Core.List.{List, [], _∷_}
-use mathlib.Core.Option.{some}
+use mathlib.Core.Option.{none, some}
 use mathlib.Core.Path.{_≡_, refl, sym, _∙_}
 use lib.Dec.{leb, ltb}
 use lib.IntN.{ℤ, pos, negsuc, _-ℤ_}
@@ -14,7 +14,8 @@ use borrow.Author.Tests.{lt-ltb, le-ltb, lt-leb, not-true, not-false, leb-true, 
 use mir.Syntax.{w64}
 use mir.Val.{SFits, toZ, ofZ}
 use mir.Facts.{toZ-ofZ}
-use Rattle.number.specs.Number.{valueOf, plain, naturalOf, positive, negative, numberOf, inRange, numberIn}
+use Rattle.text.specs.Choice.{pick}
+use Rattle.number.specs.Number.{valueOf, plain, naturalOf, positive, negative, numberOf, inRange, ranged, numberIn}
 use Rattle.number.specs.declared.Number.the-variants as number
 
 -- ---- signed numbers
@@ -50,7 +51,7 @@ module _ (a b : ℤ) (fa : SFits w64 a) (fb : SFits w64 b) where
 
 -- ---- a value's bytes read as a number
 
-numberOf-minus : (s : List ℕ) → getD s 0 0 ≡ 45 → numberOf s ≡ negative (naturalOf (drop 1 s))
+pub numberOf-minus : (s : List ℕ) → getD s 0 0 ≡ 45 → numberOf s ≡ negative (naturalOf (drop 1 s))
 unfolding numberOf
 numberOf-minus [] e = absurd (omega arith)
 numberOf-minus (byte ∷ rest) e = rw (eq-eqb byte 45 e)
@@ -83,33 +84,30 @@ number-empty low high [] e = refl
 number-empty low high (byte ∷ rest) e = absurd (omega arith)
 
 module _ (low high : ℤ) (s : List ℕ) where
-  -- `-` in front: the magnitude is the value of the digits after it, held at one more than any machine number's
-  module _ (minus : getD s 0 0 ≡ 45) where
-    pub minus-malformed : plain (drop 1 s) ≡ false → number.Malformed ≡ numberIn low high s
-    minus-malformed p = rw (numberOf-minus s minus, p)
+  pub negative-malformed : plain s ≡ false → number.Malformed ≡ ranged low high (negative (naturalOf s))
+  negative-malformed p = rw p
 
-    module _ (p : plain (drop 1 s) ≡ true) (m : ℕ) (held : m ≡ min (valueOf 0 (drop 1 s)) 9223372036854775809) where
-      pub minus-zero : m ≡ 0 → number.Malformed ≡ numberIn low high s
-      minus-zero e = let z : valueOf 0 (drop 1 s) ≡ 0 = omega arith in rw (numberOf-minus s minus, p, z)
+  pub positive-malformed : plain s ≡ false → number.Malformed ≡ ranged low high (positive (naturalOf s))
+  positive-malformed p = rw p
 
-      pub minus-outside : SFits w64 low → 9223372036854775808 < m → number.Outside ≡ numberIn low high s
-      minus-outside f h =
-          rw
-          (numberOf-minus s minus, p, negative-some (valueOf 0 (drop 1 s)) (omega arith), below-all low (valueOf 0 (drop 1 s) - 1) f (omega arith))
+  -- a magnitude is the value of digits, held at one more than any machine number's
+  module _ (m : ℕ) (held : m ≡ min (valueOf 0 s) 9223372036854775809) where
+    pub negative-zero : m ≡ 0 → number.Malformed ≡ ranged low high (negative (naturalOf s))
+    negative-zero e = let z : valueOf 0 s ≡ 0 = omega arith in rw z (go (plain s))
+      where
+        go : (p : Bool) → number.Malformed ≡ ranged low high (negative (pick p (some 0) none))
+        go true = refl
+        go false = refl
 
-      pub minus-within : 1 ≤ m → m ≤ 9223372036854775808 → inRange low high (negsuc (m - 1)) ≡ numberIn low high s
-      minus-within l h =
-          let e : m ≡ valueOf 0 (drop 1 s) = omega arith in
-          rw (numberOf-minus s minus, p, negative-some (valueOf 0 (drop 1 s)) (omega arith), e)
+    module _ (p : plain s ≡ true) where
+      pub negative-outside : SFits w64 low → 9223372036854775808 < m → number.Outside ≡ ranged low high (negative (naturalOf s))
+      negative-outside f h = rw (p, negative-some (valueOf 0 s) (omega arith), below-all low (valueOf 0 s - 1) f (omega arith))
 
-  module _ (any : 0 < length s) (no-minus : getD s 0 0 ≡ 45 → ⊥) where
-    pub plain-malformed : plain s ≡ false → number.Malformed ≡ numberIn low high s
-    plain-malformed p = rw (numberOf-plain s any no-minus, p)
+      pub negative-within : 1 ≤ m → m ≤ 9223372036854775808 → inRange low high (negsuc (m - 1)) ≡ ranged low high (negative (naturalOf s))
+      negative-within l h = let e : m ≡ valueOf 0 s = omega arith in rw (p, negative-some (valueOf 0 s) (omega arith), e)
 
-    module _ (p : plain s ≡ true) (m : ℕ) (held : m ≡ min (valueOf 0 s) 9223372036854775809) where
-      pub plain-outside : SFits w64 high → 9223372036854775807 < m → number.Outside ≡ numberIn low high s
-      plain-outside f h =
-          rw (numberOf-plain s any no-minus, p, above-all high (valueOf 0 s) f (omega arith), and-false)
+      pub positive-outside : SFits w64 high → 9223372036854775807 < m → number.Outside ≡ ranged low high (positive (naturalOf s))
+      positive-outside f h = rw (p, above-all high (valueOf 0 s) f (omega arith), and-false)
 
-      pub plain-within : m ≤ 9223372036854775807 → inRange low high (pos m) ≡ numberIn low high s
-      plain-within h = let e : m ≡ valueOf 0 s = omega arith in rw (numberOf-plain s any no-minus, p, e)
+      pub positive-within : m ≤ 9223372036854775807 → inRange low high (pos m) ≡ ranged low high (positive (naturalOf s))
+      positive-within h = let e : m ≡ valueOf 0 s = omega arith in rw (p, e)

@@ -2,14 +2,14 @@
 mod natural;
 
 ghost use mathlib.Core.Path.{_≡_};
-ghost use Prim.Native.Nat.{_≤_, _-_};
+ghost use Prim.Native.Nat.{_≤_, _<_, _-_};
 ghost use lib.IntN.{negsuc};
-ghost use lib.ListN.{drop};
-ghost use Rattle.number.specs.Number.{allDigits, plain, inRange, numberIn};
+ghost use lib.ListN.{length};
+ghost use Rattle.number.specs.Number.{naturalOf, positive, negative, inRange, ranged, numberIn};
 ghost use Rattle.line.specs.Field.{fieldAt, judged};
 ghost use Rattle.number.specs.Field.{numberField, numberAnswer, judgedNumber};
-use crate::natural::magnitude_of;
 use crate::natural::natural_at;
+use crate::natural::natural_of;
 use answers::Line;
 use answers::NumberLine;
 use answers::line_fault;
@@ -24,36 +24,6 @@ pub enum Number {
     Outside,
     // Badly written (6).
     Malformed,
-}
-
-// Whether the bytes from a position on are digits alone.
-fn all_digits(value: &[u8], from: usize) -> bool
-    ensures { λ r. ⌜ r ≡ allDigits (drop from (now (value .entry))) ⌝ }
-{
-    let mut i = from;
-    while i < value.len() {
-        if value[i] < 48 {
-            return false;
-        }
-        if 57 < value[i] {
-            return false;
-        }
-        i += 1;
-    }
-    true
-}
-
-// Whether the bytes from a position on are digits with no leading zero.
-fn is_plain(value: &[u8], from: usize) -> bool
-    ensures { λ r. ⌜ r ≡ plain (drop from (now (value .entry))) ⌝ }
-{
-    if value.len() <= from {
-        return false;
-    }
-    if value[from] == 48 {
-        return from + 1 == value.len();
-    }
-    all_digits(value, from)
 }
 
 // A number below zero, from its magnitude.
@@ -77,34 +47,51 @@ fn ranged(z: i64, low: i64, high: i64) -> Number
     Number::Value(z)
 }
 
+// Digits read as a number from low to high.
+fn natural_in(digits: &[u8], low: i64, high: i64) -> Number
+    requires { ⌜ 0 < length (now digits) ⌝ }
+    ensures { λ r. ⌜ r ≡ ranged low high (positive (naturalOf (now (digits .entry)))) ⌝ }
+{
+    let n = natural_of(digits);
+    if n.length < digits.len() {
+        return Number::Malformed;
+    }
+    let magnitude = n.value;
+    if 9223372036854775807 < magnitude {
+        return Number::Outside;
+    }
+    ranged(magnitude as i64, low, high)
+}
+
+// Digits after `-` read as a number from low to high.
+fn negative_in(digits: &[u8], low: i64, high: i64) -> Number
+    ensures { λ r. ⌜ r ≡ ranged low high (negative (naturalOf (now (digits .entry)))) ⌝ }
+{
+    let n = natural_of(digits);
+    if n.length < digits.len() {
+        return Number::Malformed;
+    }
+    let magnitude = n.value;
+    if magnitude == 0 {
+        return Number::Malformed;
+    }
+    if 9223372036854775808 < magnitude {
+        return Number::Outside;
+    }
+    ranged(below_zero(magnitude), low, high)
+}
+
 // A value's bytes read as a number from low to high.
-pub(crate) fn number_in(value: &[u8], low: i64, high: i64) -> Number
+fn number_in(value: &[u8], low: i64, high: i64) -> Number
     ensures { λ r. ⌜ r ≡ numberIn low high (now (value .entry)) ⌝ }
 {
     if value.len() == 0 {
         return Number::Malformed;
     }
     if value[0] == 45 {
-        if !is_plain(value, 1) {
-            return Number::Malformed;
-        }
-        let magnitude = magnitude_of(value, 1);
-        if magnitude == 0 {
-            return Number::Malformed;
-        }
-        if 9223372036854775808 < magnitude {
-            return Number::Outside;
-        }
-        return ranged(below_zero(magnitude), low, high);
+        return negative_in(&value[1..], low, high);
     }
-    if !is_plain(value, 0) {
-        return Number::Malformed;
-    }
-    let magnitude = magnitude_of(value, 0);
-    if 9223372036854775807 < magnitude {
-        return Number::Outside;
-    }
-    ranged(magnitude as i64, low, high)
+    natural_in(value, low, high)
 }
 
 // What a line says whose value is read.

@@ -1,7 +1,9 @@
--- The bytes read so far are digits of the value so far; a byte that is no digit, or a value that has grown too great, ends them.
+-- The bytes read so far are digits of the value so far; a byte that is no digit, or the text's end, ends them.
 use Prim.Native.Nat.{_-_}
 use lib.ListN.{length}
-use Rattle.number.proofs.Naturals.{DigitsRead, digits-none, stopped-low, stopped-high, one-digit-more}
+use Rattle.number.specs.Digits.{DigitsRead}
+use Rattle.number.proofs.Digits.{digits-low, digits-high}
+use Rattle.number.proofs.Naturals.{digits-none, one-digit-more}
 use native.Mathlib.Omega.{arith}
 use Rattle.number.proofs.natural.digits_of.Statement.{statement}
 use Rattle.number.proofs.natural.digits_of.Tie as tie
@@ -13,37 +15,23 @@ abbrev μ-loop : tie.MeasureT-loop
 μ-loop text value₀ i₀ value i = length text - i
 
 loop-holds : tie.Need-loop-holds Inv-loop μ-loop
-loop-holds c = digits-none (c .args .text .now)
+loop-holds c = digits-none (c .before .args .text .now)
 
 shared-slice-read-byte : tie.Need-shared-slice-read-byte Inv-loop μ-loop
-shared-slice-read-byte c = omega arith
+shared-slice-read-byte c = c .before .loop-test .taken
 
 returns : tie.Need-returns Inv-loop μ-loop
 returns c =
     let l = c .before .before in
-    let r = l .before .loop .inv in
-    (r .within, r .digits, r .worth, r .held, stopped-low (l .before .before .args .text .now) (l .before .loop .i) (l .before .loop .value) (l .loop-test .taken) (c .if1 .taken))
+    (l .before .loop .inv, λ within. digits-low (l .before .before .before .args .text .now) (l .before .loop .i) within (c .if1 .taken))
 
 returns-2 : tie.Need-returns-2 Inv-loop μ-loop
 returns-2 c =
     let l = c .before .before .before in
-    let r = l .before .loop .inv in
-    (r .within, r .digits, r .worth, r .held, stopped-high (l .before .before .args .text .now) (l .before .loop .i) (l .before .loop .value) (l .loop-test .taken) (c .before .if1 .left) (c .if2 .taken))
+    (l .before .loop .inv, λ within. digits-high (l .before .before .before .args .text .now) (l .before .loop .i) within (c .before .if1 .left) (c .if2 .taken))
 
-returns-3 : tie.Need-returns-3 Inv-loop μ-loop
-returns-3 c = let r = c .before .before .before .before .before .loop .inv in (r .within, r .digits, r .worth, r .held, λ within digits. c .if3 .taken)
-
-mul-value : tie.Need-mul-value Inv-loop μ-loop
-mul-value c = omega arith
-
-cast-value : tie.Need-cast-value Inv-loop μ-loop
-cast-value c = omega arith
-
-sub-value : tie.Need-sub-value Inv-loop μ-loop
-sub-value c = omega arith
-
-add-value : tie.Need-add-value Inv-loop μ-loop
-add-value c = omega arith
+one-digit-more-requires : tie.Need-one-digit-more-requires Inv-loop μ-loop
+one-digit-more-requires c κs = (c .before .if1 .left, c .if2 .left)
 
 add-i : tie.Need-add-i Inv-loop μ-loop
 add-i c = omega arith
@@ -54,10 +42,10 @@ loop-less c = omega arith
 loop-again : tie.Need-loop-again Inv-loop μ-loop
 loop-again c =
     let l = c .before .before .before .before in
-    one-digit-more (l .before .before .args .text .now) (l .before .loop .i) (l .before .loop .value) (l .loop-test .taken) (l .before .loop .inv) (c .before .before .if1 .left) (c .before .if2 .left) (c .if3 .left)
+    one-digit-more (l .before .before .before .args .text .now) (l .before .loop .i) (l .before .loop .value) (c .one-digit-more .result) (l .loop-test .taken) (l .before .loop .inv) (c .before .before .if1 .left) (c .before .if2 .left) (c .one-digit-more .ensures)
 
-returns-4 : tie.Need-returns-4 Inv-loop μ-loop
-returns-4 c = let r = c .before .loop .inv in (r .within, r .digits, r .worth, r .held, λ within digits. absurd (omega arith))
+returns-3 : tie.Need-returns-3 Inv-loop μ-loop
+returns-3 c = (c .before .loop .inv, λ within. absurd (omega arith))
 
 pub digits-of-spec : {M : Type 1} → statement M
 digits-of-spec =
@@ -69,12 +57,8 @@ digits-of-spec =
     shared-slice-read-byte
     returns
     returns-2
-    returns-3
-    mul-value
-    cast-value
-    sub-value
-    add-value
+    one-digit-more-requires
     add-i
     loop-less
     loop-again
-    returns-4)
+    returns-3)
