@@ -105,28 +105,28 @@ or-true : (b : Bool) → b || true ≡ true
 or-true true = refl
 or-true false = refl
 
-module _ (text starts ends id : List ℕ) where
-  pub stands-none : (n : ℕ) → ((k : ℕ) → k < n → sameBytes id (idOf text starts ends k) ≡ false) → standsIn id (idsAbove text starts ends n) ≡ false
+module _ (text places id : List ℕ) where
+  pub stands-none : (n : ℕ) → ((k : ℕ) → k < n → sameBytes id (idOf text places k) ≡ false) → standsIn id (idsAbove text places n) ≡ false
   unfolding standsIn idsAbove
   stands-none zero h = refl
   stands-none (suc n) h = rw (h n (omega arith)) (stands-none n (λ k l. h k (omega arith)))
 
-  pub stands-one : (n k : ℕ) → k < n → sameBytes id (idOf text starts ends k) ≡ true → standsIn id (idsAbove text starts ends n) ≡ true
+  pub stands-one : (n k : ℕ) → k < n → sameBytes id (idOf text places k) ≡ true → standsIn id (idsAbove text places n) ≡ true
   unfolding standsIn idsAbove
   stands-one zero k h e = absurd (omega arith)
   stands-one (suc n) k h e = go (eqb k n) refl (λ l. stands-one n k l e)
     where
       go :
-          (b : Bool) → eqb k n ≡ b → (k < n → standsIn id (idsAbove text starts ends n) ≡ true) →
-          sameBytes id (idOf text starts ends n) || standsIn id (idsAbove text starts ends n) ≡ true
+          (b : Bool) → eqb k n ≡ b → (k < n → standsIn id (idsAbove text places n) ≡ true) →
+          sameBytes id (idOf text places n) || standsIn id (idsAbove text places n) ≡ true
       go true p rest = rw (← eqb-true k n p, e)
-      go false p rest = let d = eqb-false k n p in rw (rest (omega arith)) (or-true (sameBytes id (idOf text starts ends n)))
+      go false p rest = let d = eqb-false k n p in rw (rest (omega arith)) (or-true (sameBytes id (idOf text places n)))
 
 -- the ids from a link on are others
-pub record NoneFrom (text starts ends id : List ℕ) (n link : ℕ) : Type 0 where
+pub record NoneFrom (text places id : List ℕ) (n link : ℕ) : Type 0 where
   pub within : link ≤ n
-  pub others : (k : ℕ) → link ≤ k → k < n → sameBytes id (idOf text starts ends k) ≡ false
-  pub same : (k : ℕ) → link ≡ suc k → bucketOf (idOf text starts ends k) ≡ bucketOf id
+  pub others : (k : ℕ) → link ≤ k → k < n → sameBytes id (idOf text places k) ≡ false
+  pub same : (k : ℕ) → link ≡ suc k → bucketOf (idOf text places k) ≡ bucketOf id
 
 -- ids of other buckets are others
 other-bucket : (id other : List ℕ) → (bucketOf other ≡ bucketOf id → ⊥) → sameBytes id other ≡ false
@@ -136,16 +136,16 @@ other-bucket id other n = go (sameBytes id other) refl
     go true e = absurd (n (ap bucketOf (sym (same-is id other e))))
     go false e = refl
 
-module _ {text heads links starts ends : List ℕ} {n : ℕ} (table : IdTable text heads links starts ends n) (id : List ℕ) where
+module _ {text links places : List ℕ} {n : ℕ} (table : IdTable text links places n) (id : List ℕ) where
   -- at the head of its bucket
-  pub none-start : NoneFrom text starts ends id n (getD heads (bucketOf id) 0)
+  pub none-start : NoneFrom text places id n (getD links (bucketOf id) 0)
   none-start =
       let l = table .latest (bucketOf id) (bucket-small id) in
-      record { within = l .within; others = λ k from below. other-bucket id (idOf text starts ends k) (l .others k from below); same = l .same }
+      record { within = l .within; others = λ k from below. other-bucket id (idOf text places k) (l .others k from below); same = l .same }
 
-  module _ {link : ℕ} (from : NoneFrom text starts ends id n link) (some : 0 < link) where
+  module _ {link : ℕ} (from : NoneFrom text places id n link) (some : 0 < link) where
     -- one link on
-    pub none-more : sameBytes id (idOf text starts ends (link - 1)) ≡ false → NoneFrom text starts ends id n (getD links (link - 1) 0)
+    pub none-more : sameBytes id (idOf text places (link - 1)) ≡ false → NoneFrom text places id n (getD links (4096 + (link - 1)) 0)
     none-more e =
         let w = from .within in
         let l = table .linked (link - 1) (omega arith) in
@@ -158,45 +158,67 @@ module _ {text heads links starts ends : List ℕ} {n : ℕ} (table : IdTable te
         }
       where
         go :
-            (k : ℕ) (less : Bool) → ltb k (link - 1) ≡ less → (here : Bool) → eqb k (link - 1) ≡ here → getD links (link - 1) 0 ≤ k → k < n →
-            Latest text starts ends (bucketOf (idOf text starts ends (link - 1))) (link - 1) (getD links (link - 1) 0) →
-            bucketOf (idOf text starts ends (link - 1)) ≡ bucketOf id → sameBytes id (idOf text starts ends k) ≡ false
+            (k : ℕ) (less : Bool) → ltb k (link - 1) ≡ less → (here : Bool) → eqb k (link - 1) ≡ here → getD links (4096 + (link - 1)) 0 ≤ k → k < n →
+            Latest text places (bucketOf (idOf text places (link - 1))) (link - 1) (getD links (4096 + (link - 1)) 0) →
+            bucketOf (idOf text places (link - 1)) ≡ bucketOf id → sameBytes id (idOf text places k) ≡ false
         go k true p here q from-link below l bucket =
-            other-bucket id (idOf text starts ends k) (λ b. l .others k from-link (ltb-true k (link - 1) p) (b ∙ sym bucket))
+            other-bucket id (idOf text places k) (λ b. l .others k from-link (ltb-true k (link - 1) p) (b ∙ sym bucket))
         go k false p true q from-link below l bucket = rw (eqb-true k (link - 1) q) e
         go k false p false q from-link below l bucket =
             let a = ltb-false k (link - 1) p in
             let d = eqb-false k (link - 1) q in
             from .others k (omega arith) below
 
-    pub none-found : sameBytes id (idOf text starts ends (link - 1)) ≡ true → true ≡ standsIn id (idsAbove text starts ends n)
-    none-found e = let w = from .within in sym (stands-one text starts ends id n (link - 1) (omega arith) e)
+    -- each link leads to an earlier id
+    pub none-less : getD links (4096 + (link - 1)) 0 < link
+    none-less =
+        let w = from .within in
+        let l = table .linked (link - 1) (omega arith) .within in
+        omega arith
 
-  pub none-over : {link : ℕ} → NoneFrom text starts ends id n link → link ≤ 0 → false ≡ standsIn id (idsAbove text starts ends n)
-  none-over from h = sym (stands-none text starts ends id n (λ k below. from .others k (omega arith) below))
+    pub none-found : sameBytes id (idOf text places (link - 1)) ≡ true → true ≡ standsIn id (idsAbove text places n)
+    none-found e = let w = from .within in sym (stands-one text places id n (link - 1) (omega arith) e)
+
+  pub none-over : {link : ℕ} → NoneFrom text places id n link → link ≤ 0 → false ≡ standsIn id (idsAbove text places n)
+  none-over from h = sym (stands-none text places id n (λ k below. from .others k (omega arith) below))
 
 -- ---- one more id in the table
 
-module _ (text starts ends : List ℕ) (n start end : ℕ) (s-room : n < length starts) (e-room : n < length ends) where
-  id-kept : (k : ℕ) → k < n → idOf text (set starts n start) (set ends n end) k ≡ idOf text starts ends k
-  id-kept k below =
-      let other : (k ≡ n → ⊥) = λ e. omega arith in
-      rw (getD-set-other starts n k start 0 other, getD-set-other ends n k end 0 other)
+-- the places with those of one id more
+abbrev placed : List ℕ → ℕ → ℕ → ℕ → List ℕ
+placed places n start end = set (set places (2 * n) start) (2 * n + 1) end
 
-  pub id-new : idOf text (set starts n start) (set ends n end) n ≡ part text start end
-  id-new = rw (getD-set-same starts n start 0 s-room, getD-set-same ends n end 0 e-room)
+module _ (text places : List ℕ) (n start end : ℕ) (p-room : 2 * n + 1 < length places) where
+  place-kept : (i : ℕ) → i < 2 * n → getD (placed places n start end) i 0 ≡ getD places i 0
+  place-kept i below =
+      rw (
+        getD-set-other (set places (2 * n) start) (2 * n + 1) i end 0 (λ e. omega arith),
+        getD-set-other places (2 * n) i start 0 (λ e. omega arith),
+      )
 
-  above-kept : (m : ℕ) → m ≤ n → idsAbove text (set starts n start) (set ends n end) m ≡ idsAbove text starts ends m
+  id-kept : (k : ℕ) → k < n → idOf text (placed places n start end) k ≡ idOf text places k
+  id-kept k below = rw (place-kept (2 * k) (omega arith), place-kept (2 * k + 1) (omega arith))
+
+  pub id-new : idOf text (placed places n start end) n ≡ part text start end
+  id-new =
+      let within : 2 * n < length places = omega arith in
+      let last : 2 * n + 1 < length (set places (2 * n) start) = simp length-set p-room in
+      rw (
+        getD-set-other (set places (2 * n) start) (2 * n + 1) (2 * n) end 0 (λ e. omega arith),
+        getD-set-same places (2 * n) start 0 within,
+        getD-set-same (set places (2 * n) start) (2 * n + 1) end 0 last,
+      )
+
+  above-kept : (m : ℕ) → m ≤ n → idsAbove text (placed places n start end) m ≡ idsAbove text places m
   unfolding idsAbove
   above-kept zero h = refl
   above-kept (suc m) h = ap₂ _∷_ (id-kept m (omega arith)) (above-kept m (omega arith))
 
-  pub above-new : idsAbove text (set starts n start) (set ends n end) (n + 1) ≡ part text start end ∷ idsAbove text starts ends n
+  pub above-new : idsAbove text (placed places n start end) (n + 1) ≡ part text start end ∷ idsAbove text places n
   unfolding idsAbove
-  above-new = rw add-one (ap₂ _∷_ id-new (above-kept n (omega arith)))
+  above-new = rw (add-one n) (ap₂ _∷_ id-new (above-kept n (omega arith)))
 
-  latest-kept :
-      (bucket m link : ℕ) → m ≤ n → Latest text starts ends bucket m link → Latest text (set starts n start) (set ends n end) bucket m link
+  latest-kept : (bucket m link : ℕ) → m ≤ n → Latest text places bucket m link → Latest text (placed places n start end) bucket m link
   latest-kept bucket m link h l =
       record {
         within = l .within;
@@ -204,86 +226,84 @@ module _ (text starts ends : List ℕ) (n start end : ℕ) (s-room : n < length 
         same = λ k is. let w = l .within in ap bucketOf (id-kept k (omega arith)) ∙ l .same k is;
       }
 
-  module _ {heads links : List ℕ} (table : IdTable text heads links starts ends n) (l-room : n < length links) where
-    heads-more :
-        (b : ℕ) → b < 4096 → Latest text (set starts n start) (set ends n end) b (n + 1) (getD (set heads (bucketOf (part text start end)) (n + 1)) b 0)
-    heads-more b small = go (eqb b (bucketOf (part text start end))) refl
-      where
-        here : bucketOf (part text start end) < length heads
-        here = omega (arith, table .buckets, bucket-small (part text start end))
+  module _ {links : List ℕ} (table : IdTable text links places n) (l-room : 4096 + n < length links) (bucket : ℕ) (is-bucket : bucket ≡ bucketOf (part text start end)) where
+    abbrev links′ : List ℕ
+    links′ = set (set links (4096 + n) (getD links bucket 0)) bucket (n + 1)
 
-        go :
-            (same : Bool) → eqb b (bucketOf (part text start end)) ≡ same →
-            Latest text (set starts n start) (set ends n end) b (n + 1) (getD (set heads (bucketOf (part text start end)) (n + 1)) b 0)
+    small : bucket < 4096
+    small = rw is-bucket (bucket-small (part text start end))
+
+    buckets-more : (b : ℕ) → b < 4096 → Latest text (placed places n start end) b (n + 1) (getD links′ b 0)
+    buckets-more b b-small = go (eqb b bucket) refl
+      where
+        here : bucket < length (set links (4096 + n) (getD links bucket 0))
+        here = simp length-set (omega (arith, small))
+
+        go : (same : Bool) → eqb b bucket ≡ same → Latest text (placed places n start end) b (n + 1) (getD links′ b 0)
         go true p =
-            let e = eqb-true b (bucketOf (part text start end)) p in
-            rw (e, getD-set-same heads (bucketOf (part text start end)) (n + 1) 0 here)
+            rw (eqb-true b bucket p, getD-set-same (set links (4096 + n) (getD links bucket 0)) bucket (n + 1) 0 here)
             (record {
               within = omega arith;
               others = λ k from below is. omega arith;
-              same = λ k is. let at : k ≡ n = omega arith in rw at (ap bucketOf id-new);
+              same = λ k is. let at : k ≡ n = omega arith in rw at (ap bucketOf id-new ∙ sym is-bucket);
             })
         go false p =
-            let d = eqb-false b (bucketOf (part text start end)) p in
-            let old = latest-kept b n (getD heads b 0) (omega arith) (table .latest b small) in
+            let d = eqb-false b bucket p in
+            let old = latest-kept b n (getD links b 0) (omega arith) (table .latest b b-small) in
             let w = old .within in
-            rw (getD-set-other heads (bucketOf (part text start end)) b (n + 1) 0 d)
+            rw (
+              getD-set-other (set links (4096 + n) (getD links bucket 0)) bucket b (n + 1) 0 d,
+              getD-set-other links (4096 + n) b (getD links bucket 0) 0 (λ e. omega arith),
+            )
             (record { within = omega arith; others = λ k from below is. other k (eqb k n) refl from below is old d; same = old .same })
           where
             other :
-                (k : ℕ) (last : Bool) → eqb k n ≡ last → getD heads b 0 ≤ k → k < n + 1 → bucketOf (idOf text (set starts n start) (set ends n end) k) ≡ b →
-                Latest text (set starts n start) (set ends n end) b n (getD heads b 0) → (b ≡ bucketOf (part text start end) → ⊥) → ⊥
-            other k true q from below is old d = d (sym is ∙ ap (λ (m : ℕ). bucketOf (idOf text (set starts n start) (set ends n end) m)) (eqb-true k n q) ∙ ap bucketOf id-new)
+                (k : ℕ) (last : Bool) → eqb k n ≡ last → getD links b 0 ≤ k → k < n + 1 → bucketOf (idOf text (placed places n start end) k) ≡ b →
+                Latest text (placed places n start end) b n (getD links b 0) → (b ≡ bucket → ⊥) → ⊥
+            other k true q from below is old d =
+                d (sym is ∙ ap (λ (m : ℕ). bucketOf (idOf text (placed places n start end) m)) (eqb-true k n q) ∙ ap bucketOf id-new ∙ sym is-bucket)
             other k false q from below is old d = let e = eqb-false k n q in old .others k from (omega arith) is
 
     links-more :
-        (k : ℕ) → k < n + 1 →
-        Latest text (set starts n start) (set ends n end) (bucketOf (idOf text (set starts n start) (set ends n end) k)) k
-        (getD (set links n (getD heads (bucketOf (part text start end)) 0)) k 0)
-    links-more k below = go (eqb k n) refl
+        (k : ℕ) → k < n + 1 → Latest text (placed places n start end) (bucketOf (idOf text (placed places n start end) k)) k (getD links′ (4096 + k) 0)
+    links-more k below =
+        rw (getD-set-other (set links (4096 + n) (getD links bucket 0)) bucket (4096 + k) (n + 1) 0 (λ e. omega (arith, small))) (go (eqb k n) refl)
       where
         go :
             (last : Bool) → eqb k n ≡ last →
-            Latest text (set starts n start) (set ends n end) (bucketOf (idOf text (set starts n start) (set ends n end) k)) k
-            (getD (set links n (getD heads (bucketOf (part text start end)) 0)) k 0)
+            Latest text (placed places n start end) (bucketOf (idOf text (placed places n start end) k)) k
+            (getD (set links (4096 + n) (getD links bucket 0)) (4096 + k) 0)
         go true p =
-            rw (eqb-true k n p, getD-set-same links n (getD heads (bucketOf (part text start end)) 0) 0 l-room, id-new)
-            (latest-kept (bucketOf (part text start end)) n (getD heads (bucketOf (part text start end)) 0) (omega arith)
-            (table .latest (bucketOf (part text start end)) (bucket-small (part text start end))))
+            rw (eqb-true k n p, getD-set-same links (4096 + n) (getD links bucket 0) 0 l-room, id-new, ← is-bucket)
+            (latest-kept bucket n (getD links bucket 0) (omega arith) (table .latest bucket small))
         go false p =
             let d = eqb-false k n p in
-            rw (getD-set-other links n k (getD heads (bucketOf (part text start end)) 0) 0 d, id-kept k (omega arith))
-            (latest-kept (bucketOf (idOf text starts ends k)) k (getD links k 0) (omega arith) (table .linked k (omega arith)))
+            rw (getD-set-other links (4096 + n) (4096 + k) (getD links bucket 0) 0 (λ e. omega arith), id-kept k (omega arith))
+            (latest-kept (bucketOf (idOf text places k)) k (getD links (4096 + k) 0) (omega arith) (table .linked k (omega arith)))
 
-    pub table-more :
-        IdTable text (set heads (bucketOf (part text start end)) (n + 1)) (set links n (getD heads (bucketOf (part text start end)) 0)) (set starts n start)
-        (set ends n end) (n + 1)
+    pub table-more : IdTable text links′ (placed places n start end) (n + 1)
     table-more =
         record {
-          buckets = length-set heads (bucketOf (part text start end)) (n + 1) ∙ table .buckets;
           links-room = simp length-set (omega arith);
-          starts-room = simp length-set (omega arith);
-          ends-room = simp length-set (omega arith);
-          latest = heads-more;
+          places-room = simp length-set (omega arith);
+          latest = buckets-more;
           linked = links-more;
         }
 
 -- ---- a table with no ids
 
-pub table-none : (text links starts ends : List ℕ) → IdTable text (replicate 4096 0) links starts ends 0
-table-none text links starts ends =
+pub table-none : (text places : List ℕ) (long : ℕ) → 4096 ≤ long → IdTable text (replicate long 0) places 0
+table-none text places long h =
     record {
-      buckets = length-replicate {A = ℕ} 4096 0;
-      links-room = omega arith;
-      starts-room = omega arith;
-      ends-room = omega arith;
+      links-room = simp length-replicate (omega arith);
+      places-room = omega arith;
       latest = λ b small.
-          rw (getD-replicate {A = ℕ} 4096 b 0 0 small)
+          rw (getD-replicate {A = ℕ} long b 0 0 (omega arith))
           (record { within = omega arith; others = λ k from below is. omega arith; same = λ k is. let z : _≡_ {A = ℕ} 0 (suc k) = is in absurd (omega arith) });
       linked = λ k below. absurd (omega arith);
     }
 
-pub room : (count n : ℕ) → count ≤ n → n ≤ 4096 → Room count (replicate n 0) (replicate n 0) (replicate n 0)
-room count n h l =
-    let long : length (replicate {A = ℕ} n 0) ≡ n = length-replicate n 0 in
-    record { few = omega arith; links-room = omega arith; starts-room = omega arith; ends-room = omega arith }
+pub room :
+    (count most long wide : ℕ) → count ≤ most → most ≤ 4096 → 4096 + most ≤ long → 2 * most ≤ wide → Room count (replicate long 0) (replicate wide 0)
+room count most long wide h few l w =
+    record { few = omega arith; links-room = simp length-replicate (omega arith); places-room = simp length-replicate (omega arith) }

@@ -69,47 +69,45 @@ summed-more id one (refused found) = refl
 
 -- n of them are read: their sums, their ids in the table, and the rest is due at a position
 pub record Summing
-    (text : List ℕ) (at count : ℕ) (links₀ starts₀ ends₀ heads links starts ends : List ℕ) (sums : Sums) (next n : ℕ) : Type 0 where
+    (text : List ℕ) (at count : ℕ) (links₀ places₀ links places : List ℕ) (sums : Sums) (next n : ℕ) : Type 0 where
   pub due : n ≤ count
-  pub room : Room count links starts ends
+  pub room : Room count links places
   pub links-long : length links ≡ length links₀
-  pub starts-long : length starts ≡ length starts₀
-  pub ends-long : length ends ≡ length ends₀
-  pub table : IdTable text heads links starts ends n
+  pub places-long : length places ≡ length places₀
+  pub table : IdTable text links places n
   pub within : SumsWithin n sums
   pub rest :
       summed (resourcesAt resourceAt count [] text at) ≡
-      added sums (summed (resourcesAt resourceAt (count - n) (idsAbove text starts ends n) text next))
+      added sums (summed (resourcesAt resourceAt (count - n) (idsAbove text places n) text next))
 
 pub summing-start :
-    (text : List ℕ) (at count : ℕ) {heads links starts ends : List ℕ} → IdTable text heads links starts ends 0 → Room count links starts ends →
-    Summing text at count links starts ends heads links starts ends noSums at 0
+    (text : List ℕ) (at count : ℕ) {links places : List ℕ} → IdTable text links places 0 → Room count links places →
+    Summing text at count links places links places noSums at 0
 unfolding idsAbove
 summing-start text at count table room =
     record {
       due = omega arith;
       room = room;
       links-long = refl;
-      starts-long = refl;
-      ends-long = refl;
+      places-long = refl;
       table = table;
       within = none-within;
       rest = rw (sub-zero, added-none);
     }
 
 module _
-    {text : List ℕ} {at count : ℕ} {links₀ starts₀ ends₀ heads links starts ends : List ℕ} {sums : Sums} {next n : ℕ}
-    (so-far : Summing text at count links₀ starts₀ ends₀ heads links starts ends sums next n) where
+    {text : List ℕ} {at count : ℕ} {links₀ places₀ links places : List ℕ} {sums : Sums} {next n : ℕ}
+    (so-far : Summing text at count links₀ places₀ links places sums next n) where
   pub summing-over : count ≤ n → got sums next ≡ summed (resourcesAt resourceAt count [] text at)
   unfolding resourcesAt sumsOf
   summing-over h = let z : count - n ≡ 0 = omega arith in rw (so-far .rest, z, plus-none)
 
   module _ (more : n < count) where
     -- there is room for one more id
-    pub summing-room : Room (n + 1) links starts ends
+    pub summing-room : Room (n + 1) links places
     summing-room =
         let room = so-far .room in
-        record { few = omega arith; links-room = omega arith; starts-room = omega arith; ends-room = omega arith }
+        record { few = omega arith; links-room = omega arith; places-room = omega arith }
 
     -- and for what it adds
     pub summing-within : SumsWithin 4095 sums
@@ -117,21 +115,21 @@ module _
 
     one-due :
         summed (resourcesAt resourceAt count [] text at) ≡
-        added sums (summed (afterAnswer (newIdAt (idsAbove text starts ends n) text next)
+        added sums (summed (afterAnswer (newIdAt (idsAbove text places n) text next)
         (λ id after. afterAnswer (resourceAt text after)
-        (λ one last. afterAnswer (resourcesAt resourceAt (count - (n + 1)) (id ∷ idsAbove text starts ends n) text last)
+        (λ one last. afterAnswer (resourcesAt resourceAt (count - (n + 1)) (id ∷ idsAbove text places n) text last)
         (λ others end. got (withEntry id one others) end)))))
     unfolding resourcesAt
     one-due = let e : count - n ≡ suc (count - (n + 1)) = omega arith in rw (so-far .rest, e)
 
-    module _ {heads′ links′ starts′ ends′ : List ℕ} {found : Line} (kept : IdKept text next n starts ends heads′ links′ starts′ ends′ found) where
+    module _ {links′ places′ : List ℕ} {found : Line} (kept : IdKept text next n places links′ places′ found) where
       module _
           {start end after : ℕ} (id-told : found ≡ line.Value start end after) (answer : Resources)
           (read : resourcesAnswer answer ≡ afterAnswer (resourceAt text after) (λ one last. got (plus sums (partOf one)) last)) where
         resource-due :
             summed (resourcesAt resourceAt count [] text at) ≡
             added sums (summed (afterAnswer (resourceAt text after)
-            (λ one last. afterAnswer (resourcesAt resourceAt (count - (n + 1)) (part text start end ∷ idsAbove text starts ends n) text last)
+            (λ one last. afterAnswer (resourcesAt resourceAt (count - (n + 1)) (part text start end ∷ idsAbove text places n) text last)
             (λ others end′. got (withEntry (part text start end) one others) end′))))
         resource-due = rw (one-due, ← kept .answers, id-told)
 
@@ -146,52 +144,49 @@ module _
 
         summing-read :
             {one : Resource} {sums′ : Sums} {last : ℕ} → resourceAt text after ≡ got one last → sums′ ≡ plus sums (partOf one) → length links′ ≡ length links →
-            length starts′ ≡ length starts → length ends′ ≡ length ends →
-            Summing text at count links₀ starts₀ ends₀ heads′ links′ starts′ ends′ sums′ last (n + 1)
-        summing-read {one} {sums′} {last} is s l b e =
+            length places′ ≡ length places → Summing text at count links₀ places₀ links′ places′ sums′ last (n + 1)
+        summing-read {one} {sums′} {last} is s l p =
             record {
               due = omega arith;
               room =
                   record {
                     few = so-far .room .few;
                     links-room = omega (arith, l, so-far .room .links-room);
-                    starts-room = omega (arith, b, so-far .room .starts-room);
-                    ends-room = omega (arith, e, so-far .room .ends-room);
+                    places-room = omega (arith, p, so-far .room .places-room);
                   };
               links-long = l ∙ so-far .links-long;
-              starts-long = b ∙ so-far .starts-long;
-              ends-long = e ∙ so-far .ends-long;
+              places-long = p ∙ so-far .places-long;
               table = kept .table start end after id-told;
               within = rw s (plus-within n 1 (so-far .within) (part-within one (resource-read text after is)));
               rest =
                   resource-due
                   ∙ rw (is, s, kept .above start end after id-told)
-                  (ap (added sums) (summed-more (part text start end) one (resourcesAt resourceAt (count - (n + 1)) (part text start end ∷ idsAbove text starts ends n) text last))
-                  ∙ added-twice sums (partOf one) (summed (resourcesAt resourceAt (count - (n + 1)) (part text start end ∷ idsAbove text starts ends n) text last)));
+                  (ap (added sums) (summed-more (part text start end) one (resourcesAt resourceAt (count - (n + 1)) (part text start end ∷ idsAbove text places n) text last))
+                  ∙ added-twice sums (partOf one) (summed (resourcesAt resourceAt (count - (n + 1)) (part text start end ∷ idsAbove text places n) text last)));
             }
 
         summing-more :
-            {sums′ : Sums} {last : ℕ} → answer ≡ resources.Read sums′ last → length links′ ≡ length links → length starts′ ≡ length starts →
-            length ends′ ≡ length ends → Summing text at count links₀ starts₀ ends₀ heads′ links′ starts′ ends′ sums′ last (n + 1)
-        summing-more {sums′} {last} is l b e =
+            {sums′ : Sums} {last : ℕ} → answer ≡ resources.Read sums′ last → length links′ ≡ length links → length places′ ≡ length places →
+            Summing text at count links₀ places₀ links′ places′ sums′ last (n + 1)
+        summing-more {sums′} {last} is l p =
             let f = followed (resourceAt text after) (λ one next. got (plus sums (partOf one)) next) (sym read ∙ ap resourcesAnswer is) in
             let one : resourceAt text after ≡ got (f .one) last = cc (f .given, f .then) in
             let s : sums′ ≡ plus sums (partOf (f .one)) = cc (f .then) in
-            summing-read one s l b e
+            summing-read one s l p
 
     module _
-        {heads′ links′ starts′ ends′ : List ℕ} {answer : Resources} (found : Line)
+        {links′ places′ : List ℕ} {answer : Resources} (found : Line)
         (read :
         resourcesAnswer answer ≡
         afterAnswer (idAnswer text found) (λ of after. afterAnswer (resourceAt text after) (λ one last. got (plus sums (partOf one)) last))) where
       -- a line is refused, or the id stands above
       pub summing-stop :
-          IdKept text next n starts ends heads′ links′ starts′ ends′ found → {told : Fault} → answer ≡ resources.Refused told →
+          IdKept text next n places links′ places′ found → {told : Fault} → answer ≡ resources.Refused told →
           resourcesAnswer answer ≡ summed (resourcesAt resourceAt count [] text at)
       summing-stop kept is = stop found kept read
         where
           stop :
-              (found : Line) → IdKept text next n starts ends heads′ links′ starts′ ends′ found →
+              (found : Line) → IdKept text next n places links′ places′ found →
               resourcesAnswer answer ≡
               afterAnswer (idAnswer text found) (λ of after. afterAnswer (resourceAt text after) (λ one last. got (plus sums (partOf one)) last)) →
               resourcesAnswer answer ≡ summed (resourcesAt resourceAt count [] text at)
@@ -200,18 +195,18 @@ module _
 
       -- one more resource is read
       pub summing-next :
-          IdKept text next n starts ends heads′ links′ starts′ ends′ found → {sums′ : Sums} {last : ℕ} → answer ≡ resources.Read sums′ last →
-          length links′ ≡ length links → length starts′ ≡ length starts → length ends′ ≡ length ends →
-          Summing text at count links₀ starts₀ ends₀ heads′ links′ starts′ ends′ sums′ last (n + 1)
-      summing-next kept {sums′} {last} is l b e = go found kept read
+          IdKept text next n places links′ places′ found → {sums′ : Sums} {last : ℕ} → answer ≡ resources.Read sums′ last →
+          length links′ ≡ length links → length places′ ≡ length places →
+          Summing text at count links₀ places₀ links′ places′ sums′ last (n + 1)
+      summing-next kept {sums′} {last} is l p = go found kept read
         where
           go :
-              (found : Line) → IdKept text next n starts ends heads′ links′ starts′ ends′ found →
+              (found : Line) → IdKept text next n places links′ places′ found →
               resourcesAnswer answer ≡
               afterAnswer (idAnswer text found) (λ of after. afterAnswer (resourceAt text after) (λ one last. got (plus sums (partOf one)) last)) →
-              Summing text at count links₀ starts₀ ends₀ heads′ links′ starts′ ends′ sums′ last (n + 1)
+              Summing text at count links₀ places₀ links′ places′ sums′ last (n + 1)
           go (line.Refused fault) kept read =
               let p : got sums′ last ≡ refused fault = sym (ap resourcesAnswer is) ∙ read in
               let z : _≡_ {A = ℕ} 0 1 = cc in
               absurd (omega arith)
-          go (line.Value start end after) kept read = summing-more kept refl answer read is l b e
+          go (line.Value start end after) kept read = summing-more kept refl answer read is l p

@@ -18,39 +18,35 @@ abbrev pub bucketOf : List ℕ → ℕ
 bucketOf id = bucketFrom 0 id
 
 -- the id with an index: each is a part of the text, from a start to an end
-abbrev pub idOf : List ℕ → List ℕ → List ℕ → ℕ → List ℕ
-idOf text starts ends k = part text (getD starts k 0) (getD ends k 0)
+abbrev pub idOf : List ℕ → List ℕ → ℕ → List ℕ
+idOf text places k = part text (getD places (2 * k) 0) (getD places (2 * k + 1) 0)
 
 -- the first n ids, the latest first
-unfoldable pub idsAbove : List ℕ → List ℕ → List ℕ → ℕ → List (List ℕ)
-idsAbove text starts ends zero = []
-idsAbove text starts ends (suc n) = idOf text starts ends n ∷ idsAbove text starts ends n
+unfoldable pub idsAbove : List ℕ → List ℕ → ℕ → List (List ℕ)
+idsAbove text places zero = []
+idsAbove text places (suc n) = idOf text places n ∷ idsAbove text places n
 
 -- a link to the latest of the first n ids that is in a bucket: its index and 1 more, or 0 where there is none
-pub record Latest (text starts ends : List ℕ) (bucket n link : ℕ) : Type 0 where
+pub record Latest (text places : List ℕ) (bucket n link : ℕ) : Type 0 where
   pub within : link ≤ n
-  pub others : (k : ℕ) → link ≤ k → k < n → bucketOf (idOf text starts ends k) ≡ bucket → ⊥
-  pub same : (k : ℕ) → link ≡ suc k → bucketOf (idOf text starts ends k) ≡ bucket
+  pub others : (k : ℕ) → link ≤ k → k < n → bucketOf (idOf text places k) ≡ bucket → ⊥
+  pub same : (k : ℕ) → link ≡ suc k → bucketOf (idOf text places k) ≡ bucket
 
--- the table of the first n ids: the latest of each bucket, and for each id the latest before it in its own bucket
-pub record IdTable (text heads links starts ends : List ℕ) (n : ℕ) : Type 0 where
-  pub buckets : length heads ≡ 4096
-  pub links-room : n ≤ length links
-  pub starts-room : n ≤ length starts
-  pub ends-room : n ≤ length ends
-  pub latest : (b : ℕ) → b < 4096 → Latest text starts ends b n (getD heads b 0)
-  pub linked : (k : ℕ) → k < n → Latest text starts ends (bucketOf (idOf text starts ends k)) k (getD links k 0)
+-- the table of the first n ids: where each starts and ends; the link of each bucket, and from 4096 on the link of each id, to those before it in its own bucket
+pub record IdTable (text links places : List ℕ) (n : ℕ) : Type 0 where
+  pub links-room : 4096 + n ≤ length links
+  pub places-room : 2 * n ≤ length places
+  pub latest : (b : ℕ) → b < 4096 → Latest text places b n (getD links b 0)
+  pub linked : (k : ℕ) → k < n → Latest text places (bucketOf (idOf text places k)) k (getD links (4096 + k) 0)
 
 -- places for as many ids as there are resources, at most 4096
-pub record Room (count : ℕ) (links starts ends : List ℕ) : Type 0 where
+pub record Room (count : ℕ) (links places : List ℕ) : Type 0 where
   pub few : count ≤ 4096
-  pub links-room : count ≤ length links
-  pub starts-room : count ≤ length starts
-  pub ends-room : count ≤ length ends
+  pub links-room : 4096 + count ≤ length links
+  pub places-room : 2 * count ≤ length places
 
 -- what taking in the id due at a position gives: the id, and the table with it; or the refusal
-pub record IdKept (text : List ℕ) (at n : ℕ) (starts ends heads′ links′ starts′ ends′ : List ℕ) (found : Line) : Type 0 where
-  pub answers : idAnswer text found ≡ newIdAt (idsAbove text starts ends n) text at
-  pub table : (start end next : ℕ) → found ≡ line.Value start end next → IdTable text heads′ links′ starts′ ends′ (n + 1)
-  pub above :
-      (start end next : ℕ) → found ≡ line.Value start end next → idsAbove text starts′ ends′ (n + 1) ≡ part text start end ∷ idsAbove text starts ends n
+pub record IdKept (text : List ℕ) (at n : ℕ) (places links′ places′ : List ℕ) (found : Line) : Type 0 where
+  pub answers : idAnswer text found ≡ newIdAt (idsAbove text places n) text at
+  pub table : (start end next : ℕ) → found ≡ line.Value start end next → IdTable text links′ places′ (n + 1)
+  pub above : (start end next : ℕ) → found ≡ line.Value start end next → idsAbove text places′ (n + 1) ≡ part text start end ∷ idsAbove text places n

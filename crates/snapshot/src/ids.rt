@@ -2,6 +2,7 @@
 ghost use mathlib.Core.Path.{_≡_};
 ghost use Rattle.snapshot.specs.Snapshot.{sameBytes, standsIn};
 ghost use Prim.Native.Nat.{_+_};
+ghost use lib.ListN.{getD};
 ghost use Rattle.snapshot.specs.Ids.{bucketOf, idsAbove, IdTable, Room, IdKept};
 use answers::Line;
 use id::id_at;
@@ -38,27 +39,26 @@ fn same_bytes(id: &[u8], other: &[u8]) -> bool
     true
 }
 
-// Whether an id stands among the first n ones of a table.
+// Whether an id stands among the first n ones of a table: `link` leads to the latest of its bucket, and each one's own link to the one before.
 fn stands_above(
     text: &[u8],
-    heads: &[u16; 4096],
     links: &[u16],
-    starts: &[usize],
-    ends: &[usize],
+    places: &[usize],
     n: usize,
     id: &[u8],
-    bucket: usize,
+    link: u16,
 ) -> bool
-    requires { ⌜ IdTable (now text) (now heads) (now links) (now starts) (now ends) n ⌝ ∗ ⌜ bucket ≡ bucketOf (now id) ⌝ }
-    ensures { λ r. ⌜ r ≡ standsIn (now (id .entry)) (idsAbove (now (text .entry)) (now (starts .entry)) (now (ends .entry)) n) ⌝ }
+    requires { ⌜ IdTable (now text) (now links) (now places) n ⌝ ∗ ⌜ link ≡ getD (now links) (bucketOf (now id)) 0 ⌝ }
+    ensures { λ r. ⌜ r ≡ standsIn (now (id .entry)) (idsAbove (now (text .entry)) (now (places .entry)) n) ⌝ }
 {
-    let mut link = heads[bucket] as usize;
-    while 0 < link {
-        let k = link - 1;
-        if same_bytes(id, part(text, starts[k], ends[k])) {
+    let mut later = link as usize;
+    while 0 < later {
+        let k = later - 1;
+        let place = 2 * k;
+        if same_bytes(id, part(text, places[place], places[place + 1])) {
             return true;
         }
-        link = links[k] as usize;
+        later = links[4096 + k] as usize;
     }
     false
 }
@@ -67,27 +67,32 @@ fn stands_above(
 pub(crate) fn new_id(
     text: &[u8],
     at: usize,
-    heads: &mut [u16; 4096],
     links: &mut [u16],
-    starts: &mut [usize],
-    ends: &mut [usize],
+    places: &mut [usize],
     n: usize,
 ) -> Line
-    requires { ⌜ IdTable (now text) (now heads) (now links) (now starts) (now ends) n ⌝ ∗ ⌜ Room (n + 1) (now links) (now starts) (now ends) ⌝ }
-    ensures { λ r. ⌜ IdKept (now (text .entry)) at n (now (starts .entry)) (now (ends .entry)) (now (heads .exit)) (now (links .exit)) (now (starts .exit)) (now (ends .exit)) r ⌝ }
+    requires { ⌜ IdTable (now text) (now links) (now places) n ⌝ ∗ ⌜ Room (n + 1) (now links) (now places) ⌝ }
+    ensures { λ r. ⌜ IdKept (now (text .entry)) at n (now (places .entry)) (now (links .exit)) (now (places .exit)) r ⌝ }
 {
     let l = id_at(text, at, b"id=");
-    let Line::Value { start, end, next } = l else {
+    let Line::Value {
+        start,
+        end,
+        next: _,
+    } = l
+    else {
         return l;
     };
     let id = part(text, start, end);
     let bucket = bucket_of(id);
-    if stands_above(text, heads, links, starts, ends, n, id, bucket) {
+    let link = links[bucket];
+    if stands_above(text, links, places, n, id, link) {
         return Line::Refused(Fault { number: 8, at });
     }
-    starts[n] = start;
-    ends[n] = end;
-    links[n] = heads[bucket];
-    heads[bucket] = (n + 1) as u16;
-    Line::Value { start, end, next }
+    links[4096 + n] = link;
+    links[bucket] = (n + 1) as u16;
+    let place = 2 * n;
+    places[place] = start;
+    places[place + 1] = end;
+    l
 }

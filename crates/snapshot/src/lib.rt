@@ -32,19 +32,9 @@ fn few_resources(text: &[u8], at: usize, count: usize) -> Resources
     requires { ⌜ count ≤ 64 ⌝ }
     ensures { λ r. ⌜ resourcesAnswer r ≡ summed (resourcesAt resourceAt count [] (now (text .entry)) at) ⌝ }
 {
-    let mut heads = [0u16; 4096];
-    let mut links = [0u16; 64];
-    let mut starts = [0usize; 64];
-    let mut ends = [0usize; 64];
-    resources_at(
-        text,
-        at,
-        count,
-        &mut heads,
-        &mut links,
-        &mut starts,
-        &mut ends,
-    )
+    let mut links = [0u16; 4160];
+    let mut places = [0usize; 128];
+    resources_at(text, at, count, &mut links, &mut places)
 }
 
 // The resources, whether few or many.
@@ -55,19 +45,9 @@ fn resources_in(text: &[u8], at: usize, count: usize) -> Resources
     if count <= 64 {
         return few_resources(text, at, count);
     }
-    let mut heads = [0u16; 4096];
-    let mut links = [0u16; 4096];
-    let mut starts = [0usize; 4096];
-    let mut ends = [0usize; 4096];
-    resources_at(
-        text,
-        at,
-        count,
-        &mut heads,
-        &mut links,
-        &mut starts,
-        &mut ends,
-    )
+    let mut links = [0u16; 8192];
+    let mut places = [0usize; 8192];
+    resources_at(text, at, count, &mut links, &mut places)
 }
 
 // What follows a header that ends at a position.

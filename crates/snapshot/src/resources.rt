@@ -69,12 +69,10 @@ pub(crate) fn resources_at(
     text: &[u8],
     at: usize,
     count: usize,
-    heads: &mut [u16; 4096],
     links: &mut [u16],
-    starts: &mut [usize],
-    ends: &mut [usize],
+    places: &mut [usize],
 ) -> Resources
-    requires { ⌜ IdTable (now text) (now heads) (now links) (now starts) (now ends) 0 ⌝ ∗ ⌜ Room count (now links) (now starts) (now ends) ⌝ }
+    requires { ⌜ IdTable (now text) (now links) (now places) 0 ⌝ ∗ ⌜ Room count (now links) (now places) ⌝ }
     ensures { λ r. ⌜ resourcesAnswer r ≡ summed (resourcesAt resourceAt count [] (now (text .entry)) at) ⌝ }
 {
     let mut sums = Sums {
@@ -87,7 +85,7 @@ pub(crate) fn resources_at(
     let mut next = at;
     let mut n: usize = 0;
     while n < count {
-        let id = new_id(text, next, heads, links, starts, ends, n);
+        let id = new_id(text, next, links, places, n);
         let r = with_resource(text, id, sums);
         let Resources::Read {
             sums: more,

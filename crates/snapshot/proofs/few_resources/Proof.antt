@@ -11,16 +11,15 @@ slice-aggregate-resources-at c = refl
 slice-aggregate-resources-at-2 : tie.Need-slice-aggregate-resources-at-2
 slice-aggregate-resources-at-2 c = refl
 
-slice-aggregate-resources-at-3 : tie.Need-slice-aggregate-resources-at-3
-slice-aggregate-resources-at-3 c = refl
-
 resources-at-requires : tie.Need-resources-at-requires
 resources-at-requires c κs =
-    let start = c .before .before .before .before .before in
-    (table-none (start .args .text .now) (replicate 64 0) (replicate 64 0) (replicate 64 0), room (start .args .count) 64 (start .pre) (lit≤ tt))
+    let start = c .before .before .before in (
+      table-none (start .args .text .now) (replicate 128 0) 4160 (lit≤ tt),
+      room (start .args .count) 64 4160 128 (start .pre) (lit≤ tt) (lit≤ tt) (lit≤ tt),
+    )
 
 returns : tie.Need-returns
-returns c = c .before .before .before .resources-at .ensures
+returns c = c .before .before .resources-at .ensures
 
 pub few-resources-spec : {M : Type 1} → statement M
 few-resources-spec =
@@ -28,6 +27,5 @@ few-resources-spec =
     (tie.spec
     slice-aggregate-resources-at
     slice-aggregate-resources-at-2
-    slice-aggregate-resources-at-3
     resources-at-requires
     returns)

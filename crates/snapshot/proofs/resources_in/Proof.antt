@@ -17,16 +17,15 @@ slice-aggregate-resources-at c = refl
 slice-aggregate-resources-at-2 : tie.Need-slice-aggregate-resources-at-2
 slice-aggregate-resources-at-2 c = refl
 
-slice-aggregate-resources-at-3 : tie.Need-slice-aggregate-resources-at-3
-slice-aggregate-resources-at-3 c = refl
-
 resources-at-requires : tie.Need-resources-at-requires
 resources-at-requires c κs =
-    let start = c .before .before .before .before .before .before in
-    (table-none (start .args .text .now) (replicate 4096 0) (replicate 4096 0) (replicate 4096 0), room (start .args .count) 4096 (start .pre) (lit≤ tt))
+    let start = c .before .before .before .before in (
+      table-none (start .args .text .now) (replicate 8192 0) 8192 (lit≤ tt),
+      room (start .args .count) 4096 8192 8192 (start .pre) (lit≤ tt) (lit≤ tt) (lit≤ tt),
+    )
 
 returns-2 : tie.Need-returns-2
-returns-2 c = c .before .before .before .resources-at .ensures
+returns-2 c = c .before .before .resources-at .ensures
 
 pub resources-in-spec : {M : Type 1} → statement M
 resources-in-spec =
@@ -36,6 +35,5 @@ resources-in-spec =
     returns
     slice-aggregate-resources-at
     slice-aggregate-resources-at-2
-    slice-aggregate-resources-at-3
     resources-at-requires
     returns-2)
