@@ -1,18 +1,21 @@
 -- What a group that is not impossible (1) has: small numbers, and squares around any x that are not negative.
-use mathlib.Core.Path.{_≡_, refl, _∙_}
+use mathlib.Core.Path.{_≡_, refl, sym, _∙_}
 use mathlib.Core.Bool.{Bool, true, false, _&&_, _||_, or-true}
 use mathlib.Core.List.{List, [], _∷_}
-use Prim.Native.Nat.{ℕ, zero, suc, _+_, _*_, _≤_, _<_}
+use Prim.Native.Nat.{ℕ, zero, suc, _+_, _-_, _*_, _≤_, _<_}
 use native.Mathlib.Numerals.{add-one}
 use native.Mathlib.Omega.{arith}
 use borrow.Author.Tests.{leb-true, le-leb, eqb-true, eqb-false}
-use lib.Dec.{eqb}
+use lib.Dec.{eqb, leb}
 use lib.IntN.{ℤ, pos, natAbs, _+ℤ_}
 use lib.ListN.{length, getD, drop, drop-of-length-le}
 use lib.Seq.{drop-cons}
-use lib.Signed.{_≤ℤ_}
+use lib.Signed.{leZ, _≤ℤ_}
+use mir.Syntax.{w64}
+use mir.Val.{Fits}
 use Rattle.integer.specs.Floor.{floorDiv}
 use Rattle.quadratic.specs.Quadratic.{quadratic}
+use Rattle.range.specs.Range.{within}
 use Rattle.integer.proofs.Difference.{view, toℕ}
 use Rattle.integer.proofs.Order.{leZ-true, le-leZ}
 use Rattle.integer.proofs.Floor.{floor-low, floor-high}
@@ -39,11 +42,31 @@ pub record Possible (g : Group) : Type 0 where
 abbrev pub tests : Group → Bool
 tests g = notNegative (squaresAround g (meanOf g)) && notNegative (squaresAround g (meanOf g +ℤ pos 1))
 
--- of a small group the rest of the test is left
-pub small-possible : (g : Group) → SmallGroup g → possible g ≡ eqb (g .count) 0 || tests g
+-- the bounds of the sum and of the squares
+abbrev pub bounded : Group → Bool
+bounded g = leb (natAbs (g .sum)) (g .count * 20000000) && within (pos 0) (pos (g .count * 400000000000000)) (g .squares)
+
+-- of a group of few hours the bounds are left, and of one with hours the two tests
+pub few-possible : (g : Group) → g .count ≤ 1000 → possible g ≡ bounded g && (eqb (g .count) 0 || tests g)
 unfolding possible
-small-possible g small =
-    rw (le-leb (g .count) 1000 (small .count), le-leb (natAbs (g .sum)) (g .count * 20000000) (small .sum), le-leZ (small .low), le-leZ (small .high))
+few-possible g few =
+    rw (le-leb (g .count) 1000 few)
+    (regroup (leb (natAbs (g .sum)) (g .count * 20000000)) (notNegative (g .squares)) (leZ (g .squares) (pos (g .count * 400000000000000)))
+    (eqb (g .count) 0 || tests g))
+  where
+    regroup : (sum low high rest : Bool) → sum && (low && (high && rest)) ≡ (sum && (low && high)) && rest
+    regroup false low high rest = refl
+    regroup true false high rest = refl
+    regroup true true high rest = refl
+
+pub bounded-small : (g : Group) → g .count ≤ 1000 → bounded g ≡ true → SmallGroup g
+bounded-small g few e =
+    let sum = and-split _ _ e in
+    let squares = and-split _ _ (sum .1) in
+    record { count = few; sum = leb-true _ _ (sum .0); low = leZ-true _ _ (squares .0); high = leZ-true _ _ (squares .1) }
+
+small-bounded : (g : Group) → SmallGroup g → bounded g ≡ true
+small-bounded g small = rw (le-leb (natAbs (g .sum)) (g .count * 20000000) (small .sum), le-leZ (small .low), le-leZ (small .high))
 
 -- the two tests next to the mean are enough for every x
 pub tests-all : (g : Group) → 0 < g .count → tests g ≡ true → (x : ℤ) → pos 0 ≤ℤ squaresAround g x
@@ -64,22 +87,25 @@ none-around g small none x = rw (none, zero (g .sum) (omega (arith, small .sum))
     nothing : (q x : ℤ) → quadratic (pos 0) q (pos 0) x ≡ q
     nothing q x = rw (view q, view x) (simp toℕ (omega arith))
 
-pub possible-is : (g : Group) → possible g ≡ true → Possible g
+count-few : (g : Group) → possible g ≡ true → g .count ≤ 1000
 unfolding possible
+count-few g e = leb-true _ _ (and-split _ _ e .0)
+
+pub possible-is : (g : Group) → possible g ≡ true → Possible g
 possible-is g e =
-    let p1 = and-split _ _ e in
-    let p2 = and-split _ _ (p1 .1) in
-    let p3 = and-split _ _ (p2 .1) in
-    let p4 = and-split _ _ (p3 .1) in
-    let small : SmallGroup g = record { count = leb-true _ _ (p1 .0); sum = leb-true _ _ (p2 .0); low = leZ-true _ _ (p3 .0); high = leZ-true _ _ (p4 .0) } in
-    record { small = small; around = go small (eqb (g .count) 0) refl (p4 .1) }
+    let few = count-few g e in
+    let parts = and-split _ _ (sym (few-possible g few) ∙ e) in
+    let small = bounded-small g few (parts .0) in
+    record { small = small; around = go small (eqb (g .count) 0) refl (parts .1) }
   where
     go : SmallGroup g → (none : Bool) → eqb (g .count) 0 ≡ none → none || tests g ≡ true → (x : ℤ) → pos 0 ≤ℤ squaresAround g x
     go small true n e = none-around g small (eqb-true (g .count) 0 n)
     go small false n e = tests-all g (omega (arith, eqb-false (g .count) 0 n)) e
 
 pub is-possible : (g : Group) → Possible g → possible g ≡ true
-is-possible g p = small-possible g (p .small) ∙ rw (le-leZ (p .around (meanOf g)), le-leZ (p .around (meanOf g +ℤ pos 1)), or-true (eqb (g .count) 0))
+is-possible g p =
+    few-possible g (p .small .count)
+    ∙ rw (small-bounded g (p .small), le-leZ (p .around (meanOf g)), le-leZ (p .around (meanOf g +ℤ pos 1)), or-true (eqb (g .count) 0))
 
 -- ---- a record's groups
 
@@ -103,3 +129,27 @@ possible-step groups i h = rw (add-one, drop-cons groups i noHours)
 pub possible-end : (groups : List Group) (i : ℕ) → length groups ≤ i → allPossible (drop i groups) ≡ true
 unfolding allPossible
 possible-end groups i h = rw (drop-of-length-le groups h)
+
+-- ---- a turn of a loop over the groups of a record
+
+module _ {i : ℕ} (more : i < 24) where
+  pub group-byte : Fits w64 (i * 24)
+  group-byte = omega arith
+
+  pub pair-byte : Fits w64 (i * 16)
+  pair-byte = omega arith
+
+  pub one-more : Fits w64 (i + 1)
+  one-more = omega arith
+
+  pub passed : i + 1 ≤ 24
+  passed = omega arith
+
+  pub fewer-left : 24 - (i + 1) < 24 - i
+  fewer-left = omega arith
+
+  pub turn-within : {long : ℕ} → long ≡ 24 → i < long
+  turn-within h = omega arith
+
+pub turns-over : {i long : ℕ} → 24 ≤ i → long ≡ 24 → long ≤ i
+turns-over over h = omega arith

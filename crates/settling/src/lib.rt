@@ -66,10 +66,9 @@ pub fn settle(history: Record, voll: i64, floor: i64) -> Curves
     if !all_possible(history) {
         return refused_curves(1, 0);
     }
-    if !is_within(voll, 0, 2000000) {
-        return refused_curves(7, 0);
-    }
-    if !is_within(floor, 0, 20000000) {
+    let voll_in_range = is_within(voll, 0, 2000000);
+    let floor_in_range = is_within(floor, 0, 20000000);
+    if !(voll_in_range & floor_in_range) {
         return refused_curves(7, 0);
     }
     settle_groups(history, voll, floor)

@@ -5,6 +5,7 @@ ghost use lib.IntN.{natAbs};
 ghost use Rattle.settling.specs.Possible.{squaresAround, SmallGroup, possible, allPossible};
 use integer::floor_div;
 use integer::magnitude;
+use range::is_within;
 use record::Group;
 use record::Record;
 
@@ -24,23 +25,18 @@ fn is_possible(g: Group) -> bool
     if 1000 < g.count {
         return false;
     }
-    if g.count * 20000000 < magnitude(g.sum) {
-        return false;
-    }
-    if g.squares < 0 {
-        return false;
-    }
-    if ((g.count * 400000000000000) as i64) < g.squares {
+    let sum_within = magnitude(g.sum) <= g.count * 20000000;
+    let squares_within = is_within(g.squares, 0, (g.count * 400000000000000) as i64);
+    if !(sum_within & squares_within) {
         return false;
     }
     if g.count == 0 {
         return true;
     }
     let mean = floor_div(g.sum, g.count);
-    if squares_around(g, mean) < 0 {
-        return false;
-    }
-    0 <= squares_around(g, mean + 1)
+    let at_mean = 0 <= squares_around(g, mean);
+    let next_to_mean = 0 <= squares_around(g, mean + 1);
+    at_mean & next_to_mean
 }
 
 // Whether each group of a record is possible.
@@ -49,8 +45,7 @@ pub fn all_possible(history: Record) -> bool
 {
     let mut i: usize = 0;
     while i < 24 {
-        let g = history.groups[i];
-        if !is_possible(g) {
+        if !is_possible(history.groups[i]) {
             return false;
         }
         i += 1;

@@ -17,7 +17,7 @@ use Rattle.curve_set.specs.declared.Pair.{Pair}
 use Rattle.curve_set.specs.Answer.{refusal}
 use Rattle.record.specs.Record.{noHours}
 use Rattle.settling.specs.Settle.{spreadOf, pairOf, settledGroups}
-use Rattle.settling.proofs.PossibleGroups.{possible-at}
+use Rattle.settling.proofs.PossibleGroups.{possible-at, group-byte, pair-byte, one-more, passed, fewer-left, turn-within, turns-over}
 use Rattle.settling.proofs.settle_groups.Statement.{statement}
 use Rattle.settling.proofs.settle_groups.Tie as tie
 
@@ -54,7 +54,7 @@ pairs-step groups pairs i h k e =
     )
 
 within : (c : tie.In-loop Inv-loop μ-loop) → c .before .loop .i < length (c .before .before .args .t1 .groups)
-within c = omega (arith, long (c .before .before))
+within c = turn-within (c .loop-test .taken) (long (c .before .before))
 
 abbrev at-hand : tie.In-loop Inv-loop μ-loop → Group
 at-hand c = getD (c .before .before .args .t1 .groups) (c .before .loop .i) noHours
@@ -69,10 +69,10 @@ loop-holds : tie.Need-loop-holds Inv-loop μ-loop
 loop-holds c = (omega arith, refl, refl, refl)
 
 mul-g : tie.Need-mul-g Inv-loop μ-loop
-mul-g c = omega arith
+mul-g c = group-byte (c .loop-test .taken)
 
 element-copy-out-g : tie.Need-element-copy-out-g Inv-loop μ-loop
-element-copy-out-g c = omega arith
+element-copy-out-g c = c .loop-test .taken
 
 refused-curves-requires : tie.Need-refused-curves-requires Inv-loop μ-loop
 refused-curves-requires c κs = tt
@@ -82,10 +82,13 @@ returns c =
     let turn = c .before .before .before .before in
     rw (here turn, lt-ltb (at-hand turn .count) 2 (c .before .if1 .taken)) (c .refused-curves .ensures)
 
+some : {n : ℕ} → 2 ≤ n → 1 ≤ n
+some h = omega arith
+
 pair-of-requires : tie.Need-pair-of-requires Inv-loop μ-loop
 pair-of-requires c κs =
     let turn = c .before .before .before in
-    (possible-at (turn .before .before .args .t1 .groups) (turn .before .before .pre) (turn .before .loop .i), omega (arith, c .if1 .left))
+    (possible-at (turn .before .before .args .t1 .groups) (turn .before .before .pre) (turn .before .loop .i), some (c .if1 .left))
 
 refused-curves-requires-2 : tie.Need-refused-curves-requires-2 Inv-loop μ-loop
 refused-curves-requires-2 c κs = tt
@@ -105,16 +108,16 @@ returns-2 c =
     ) (c .refused-curves2 .ensures)
 
 mul-pairs : tie.Need-mul-pairs Inv-loop μ-loop
-mul-pairs c = omega (arith, c .before .before .before .before .before .before .before .loop-test .taken)
+mul-pairs c = pair-byte (c .before .before .before .before .before .before .before .loop-test .taken)
 
 array-set-from-pairs : tie.Need-array-set-from-pairs Inv-loop μ-loop
 array-set-from-pairs c = c .before .before .before .before .before .before .before .loop-test .taken
 
 add-i : tie.Need-add-i Inv-loop μ-loop
-add-i c = omega (arith, c .before .before .before .before .before .before .before .loop-test .taken)
+add-i c = one-more (c .before .before .before .before .before .before .before .loop-test .taken)
 
 loop-less : tie.Need-loop-less Inv-loop μ-loop
-loop-less c = omega (arith, c .before .before .before .before .before .before .before .loop-test .taken)
+loop-less c = fewer-left (c .before .before .before .before .before .before .before .loop-test .taken)
 
 loop-again : tie.Need-loop-again Inv-loop μ-loop
 loop-again c =
@@ -122,8 +125,8 @@ loop-again c =
     let turn = made .before .before .before .before in
     let loop = turn .before .loop in
     let groups = turn .before .before .args .t1 .groups in
-    let inside : loop .i < length (loop .pairs) = omega (arith, turn .loop-test .taken, loop .inv .1) in (
-      omega (arith, turn .loop-test .taken),
+    let inside = turn-within (turn .loop-test .taken) (loop .inv .1) in (
+      passed (turn .loop-test .taken),
       length-set (loop .pairs) (loop .i) (made .pair-of .result) ∙ loop .inv .1,
       here turn ∙ rw (
         le-ltb (at-hand turn .count) 2 (made .before .if1 .left),
@@ -138,8 +141,8 @@ returns-3 c =
     let s = c .before .before in
     let loop = c .before .loop in
     let groups = s .args .t1 .groups in
-    let last : length groups ≤ loop .i = omega (arith, long s, c .loop-test .left) in
-    let short : length (loop .pairs) ≤ loop .i = omega (arith, loop .inv .1, c .loop-test .left) in
+    let last = turns-over (c .loop-test .left) (long s) in
+    let short = turns-over (c .loop-test .left) (loop .inv .1) in
     let mapped : length (map pairOf groups) ≤ loop .i = rw (length-map groups pairOf) last in
     let pairs : loop .pairs ≡ map pairOf groups = sym (take-all (loop .i) (loop .pairs) short) ∙ loop .inv .3 ∙ take-all (loop .i) (map pairOf groups) mapped in
     let accepted : settledGroups 0 groups ≡ answer.Accepted = loop .inv .2 ∙ rw (drop-of-length-le groups last) in
