@@ -49,14 +49,14 @@ fn book_error(history: Record, group: usize, e: i64) -> Booking
     requires { ⌜ group < 24 ⌝ }
     ensures { λ r. ⌜ r ≡ bookError history group e ⌝ }
 {
-    let g = history.groups[group];
+    let mut changed = history;
+    let g = changed.groups[group];
     if 1000 <= g.count {
         return kept(history, 10);
     }
     if 20000000 < magnitude(e) {
         return kept(history, 11);
     }
-    let mut changed = history;
     changed.groups[group] = with_error(g, e);
     Booking {
         history: changed,
@@ -73,10 +73,14 @@ pub fn book(history: Record, text: &[u8]) -> Booking
     }
     let h = read_hour(text);
     match h {
-        ReadHour::Refused(found) => Booking {
-            history,
-            answer: Answer::Refused(found),
-        },
-        ReadHour::Error { group, error } => book_error(history, group as usize, error),
+        ReadHour::Refused(found) => {
+            return Booking {
+                history,
+                answer: Answer::Refused(found),
+            };
+        }
+        ReadHour::Error { group, error } => {
+            return book_error(history, group as usize, error);
+        }
     }
 }

@@ -72,7 +72,7 @@ book-spec =
     returns
     read-hour-requires
     enum-known-h
+    returns-2
     enum-known-h-2
     book-error-requires
-    returns-2
     returns-3)

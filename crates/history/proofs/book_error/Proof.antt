@@ -1,27 +1,26 @@
 use mathlib.Core.Path.{_≡_, ap, _∙_}
 use Prim.Native.Nat.{_≤_}
-use native.Mathlib.Omega.{arith}
 use borrow.Author.Tests.{le-leb, lt-leb}
 use lib.IntN.{natAbs}
 use mir.Facts.{toZ-ofZ}
 use Rattle.record.specs.declared.Group.{Group}
 use Rattle.record.specs.Record.{groupAt}
 use Rattle.history.specs.Booking.{bookError}
-use Rattle.settling.proofs.PossibleGroups.{possible-is, possible-at}
+use Rattle.settling.proofs.PossibleGroups.{possible-is, possible-at, group-byte}
 use Rattle.history.proofs.book_error.Statement.{statement}
 use Rattle.history.proofs.book_error.Tie as tie
 
 mul-g : tie.Need-mul-g
-mul-g c = omega arith
+mul-g c = group-byte (c .pre .1)
 
 element-copy-out-g : tie.Need-element-copy-out-g
-element-copy-out-g c = omega arith
+element-copy-out-g c = c .pre .1
 
 kept-requires : tie.Need-kept-requires
 kept-requires c κs = tt
 
 abbrev at-hand : tie.Start → Group
-at-hand c = groupAt (c .args .t1) (c .args .group)
+at-hand c = groupAt (c .args .history) (c .args .group)
 
 returns : tie.Need-returns
 unfolding bookError
@@ -51,13 +50,13 @@ near c = rw (magnitude-is (c .before)) at (c .if2 .left)
 with-error-requires : tie.Need-with-error-requires
 with-error-requires c κs =
     let s = c .before .before .before .before .before in
-    (possible-is (at-hand s) (possible-at (s .args .t1 .groups) (s .pre .0) (s .args .group)) .small, rw (toZ-ofZ (s .fits .e)) (near c))
+    (possible-is (at-hand s) (possible-at (s .args .history .groups) (s .pre .0) (s .args .group)) .small, rw (toZ-ofZ (s .fits .e)) (near c))
 
-mul-t7 : tie.Need-mul-t7
-mul-t7 c = omega arith
+mul-t6 : tie.Need-mul-t6
+mul-t6 c = group-byte (c .before .before .before .before .before .before .pre .1)
 
 element-set-from-changed : tie.Need-element-set-from-changed
-element-set-from-changed c = omega arith
+element-set-from-changed c = c .before .before .before .before .before .before .pre .1
 
 returns-3 : tie.Need-returns-3
 unfolding bookError
@@ -78,6 +77,6 @@ book-error-spec =
     kept-requires-2
     returns-2
     with-error-requires
-    mul-t7
+    mul-t6
     element-set-from-changed
     returns-3)
