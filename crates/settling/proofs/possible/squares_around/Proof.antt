@@ -1,12 +1,13 @@
-use Prim.Native.Nat.{_*_, _≤_}
-use native.Mathlib.Nat.{mul-le-mul}
+use Prim.Native.Nat.{ℕ, _+_, _*_, _≤_}
+use native.Mathlib.Nat.{le-refl, mul-le-mul}
 use native.Mathlib.Omega.{arith}
+use lib.Dec.{lit<}
 use lib.IntN.{ℤ, pos, natAbs, _+ℤ_, _-ℤ_, _*ℤ_}
 use mir.Syntax.{w64}
 use mir.Val.{SFits}
 use mir.Facts.{toZ-ofZ}
 use Rattle.quadratic.specs.Quadratic.{quadratic}
-use Rattle.integer.proofs.Bounds.{abs-add, abs-sub, abs-mul, abs-fits}
+use Rattle.integer.proofs.Bounds.{abs-add, abs-sub, abs-mul, bound-fits}
 use Rattle.record.specs.declared.Group.{Group}
 use Rattle.settling.specs.Possible.{SmallGroup, squaresAround}
 use Rattle.settling.proofs.PossibleGroups.{squares-bound}
@@ -28,29 +29,42 @@ record Steps (g : Group) (x : ℤ) : Type 0 where
 
 steps : (g : Group) (x : ℤ) → SmallGroup g × (natAbs x ≤ 20000001) → Steps g x
 steps g x h =
-    let small = h .0 in
     let near = h .1 in
-    let sum : natAbs (g .sum) ≤ 20000000000 = omega arith in
-    let squares = squares-bound g small in
-    let product : natAbs (x *ℤ g .sum) ≤ 20000001 * 20000000000 = omega (arith, abs-mul x (g .sum), mul-le-mul near sum) in
-    let twice : natAbs (pos 2 *ℤ (x *ℤ g .sum)) ≤ 2 * (20000001 * 20000000000) = omega (arith, abs-mul (pos 2) (x *ℤ g .sum)) in
-    let square : natAbs (x *ℤ x) ≤ 20000001 * 20000001 = omega (arith, abs-mul x x, mul-le-mul near near) in
-    let counted : natAbs (pos (g .count) *ℤ (x *ℤ x)) ≤ 1000 * (20000001 * 20000001) =
-    omega (arith, abs-mul (pos (g .count)) (x *ℤ x), mul-le-mul (small .count) square) in
-    let difference = abs-sub (g .squares) (pos 2 *ℤ (x *ℤ g .sum)) in
-    let whole = abs-add (g .squares -ℤ pos 2 *ℤ (x *ℤ g .sum)) (pos (g .count) *ℤ (x *ℤ x)) in
+    let sum = sum-small g (h .0) in
+    let squares = squares-small g (h .0) in
+    let product = product-small x (g .sum) near sum in
+    let twice = product-small (pos 2) (x *ℤ g .sum) (le-refl 2) product in
+    let square = product-small x x near near in
+    let counted = product-small (pos (g .count)) (x *ℤ x) (h .0 .count) square in
+    let difference = difference-small (g .squares) (pos 2 *ℤ (x *ℤ g .sum)) squares twice in
+    let whole = whole-small (g .squares -ℤ pos 2 *ℤ (x *ℤ g .sum)) (pos (g .count) *ℤ (x *ℤ x)) difference counted in
     record {
-      mean = omega (arith, abs-fits);
-      sum = omega (arith, abs-fits);
-      squares = omega (arith, abs-fits);
-      count = omega (arith, abs-fits);
-      product = omega (arith, abs-fits);
-      twice = omega (arith, abs-fits);
-      difference = omega (arith, abs-fits);
-      square = omega (arith, abs-fits);
-      counted = omega (arith, abs-fits);
-      whole = omega (arith, abs-fits);
+      mean = bound-fits _ _ near (lit< tt);
+      sum = bound-fits _ _ sum (lit< tt);
+      squares = bound-fits _ _ squares (lit< tt);
+      count = bound-fits _ _ (h .0 .count) (lit< tt);
+      product = bound-fits _ _ product (lit< tt);
+      twice = bound-fits _ _ twice (lit< tt);
+      difference = bound-fits _ _ difference (lit< tt);
+      square = bound-fits _ _ square (lit< tt);
+      counted = bound-fits _ _ counted (lit< tt);
+      whole = bound-fits _ _ whole (lit< tt);
     }
+  where
+    sum-small : (g : Group) → SmallGroup g → natAbs (g .sum) ≤ 20000000000
+    sum-small g small = omega arith
+
+    squares-small : (g : Group) → SmallGroup g → natAbs (g .squares) ≤ 400000000000000000
+    squares-small g small = omega (arith, squares-bound g small)
+
+    product-small : (x y : ℤ) {a b : ℕ} → natAbs x ≤ a → natAbs y ≤ b → natAbs (x *ℤ y) ≤ a * b
+    product-small x y h k = rw (abs-mul x y) (mul-le-mul h k)
+
+    difference-small : (x y : ℤ) {a b : ℕ} → natAbs x ≤ a → natAbs y ≤ b → natAbs (x -ℤ y) ≤ a + b
+    difference-small x y h k = omega (arith, abs-sub x y)
+
+    whole-small : (x y : ℤ) {a b : ℕ} → natAbs x ≤ a → natAbs y ≤ b → natAbs (x +ℤ y) ≤ a + b
+    whole-small x y h k = omega (arith, abs-add x y)
 
 fitting : (c : tie.Start) → Steps (c .args .g) (c .args .x)
 fitting c = steps (c .args .g) (c .args .x) (c .pre)
