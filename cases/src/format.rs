@@ -1,103 +1,100 @@
 //! How cases are written down, and a reader of it.
 
-use crate::{Case, Input, Text};
+use crate::{buffer_byte, curve_numbers, record_numbers, Case, Input, Text};
 use reference::{CurveSet, Group, Record, GROUPS};
-use std::io::Write;
+
+/// The numbers of the operations.
+const BOOK: i64 = 0;
+const SETTLE: i64 = 1;
+const READ: i64 = 2;
+const WRITE: i64 = 3;
+const PRICE: i64 = 4;
+
+/// Equal bytes at the end of a text that are written down once.
+const LONG_RUN: usize = 24;
 
 /// The bytes of `cases.bin`.
 pub fn encode(cases: &[Case]) -> Vec<u8> {
-    let mut out = Vec::new();
+    let mut writer = Writer::default();
+    writer.numbers(&[cases.len() as i64]);
     for case in cases {
-        put(&mut out, &case.input.letter().to_string());
-        match &case.input {
+        writer.case(&case.input);
+    }
+    writer.out
+}
+
+#[derive(Default)]
+struct Writer {
+    out: Vec<u8>,
+    /// The text before, where it is known.
+    held: Vec<u8>,
+}
+
+impl Writer {
+    fn numbers(&mut self, numbers: &[i64]) {
+        for number in numbers {
+            self.out.extend(number.to_be_bytes());
+        }
+    }
+
+    fn case(&mut self, input: &Input) {
+        match input {
             Input::Book { record, text } => {
-                put_record(&mut out, record);
-                put_text(&mut out, text);
+                self.text(text.bytes(), BOOK);
+                self.numbers(&record_numbers(record));
             }
             Input::Settle {
                 record,
                 voll,
                 floor,
             } => {
-                put_record(&mut out, record);
-                put(&mut out, &format!("{voll} {floor}"));
+                self.text(Vec::new(), SETTLE);
+                self.numbers(&record_numbers(record));
+                self.numbers(&[*voll, *floor]);
             }
-            Input::Read { text } => put_text(&mut out, text),
+            Input::Read { text } => self.text(text.bytes(), READ),
             Input::Write { curves, length } => {
-                put_curves(&mut out, curves);
-                put(&mut out, &length.to_string());
+                self.text((0..*length).map(buffer_byte).collect(), WRITE);
+                self.numbers(&curve_numbers(curves));
+                self.held.clear();
             }
             Input::Price { curves, text } => {
-                put_curves(&mut out, curves);
-                put_text(&mut out, text);
+                self.text(text.bytes(), PRICE);
+                self.numbers(&curve_numbers(curves));
             }
         }
     }
-    put(&mut out, "E");
-    out
-}
 
-fn put(out: &mut Vec<u8>, line: &str) {
-    writeln!(out, "{line}").expect("a Vec takes every byte");
-}
-
-/// Equal groups in a row are written once, after their number.
-fn put_repeats<T: PartialEq>(out: &mut Vec<u8>, groups: &[T], show: impl Fn(&T) -> String) {
-    for equal in groups.chunk_by(|one, next| one == next) {
-        put(out, &format!("{} {}", equal.len(), show(&equal[0])));
+    /// A text, and the number of the operation on it.
+    fn text(&mut self, text: Vec<u8>, operation: i64) {
+        let last = text.last().copied().unwrap_or(0);
+        let run = text.iter().rev().take_while(|&&byte| byte == last).count();
+        let stop = text.len() - if run < LONG_RUN { 0 } else { run };
+        let both = text[..stop].iter().zip(&self.held);
+        let start = both.take_while(|(byte, held)| byte == held).count();
+        self.numbers(&[text.len() as i64, stop as i64, start as i64]);
+        self.out.extend(&text[start..stop]);
+        self.numbers(&[i64::from(last), operation]);
+        self.held = text;
     }
 }
 
-fn put_record(out: &mut Vec<u8>, record: &Record) {
-    put_repeats(out, &record.groups, |group| {
-        format!("{} {} {}", group.count, group.sum, group.squares)
-    });
-}
-
-fn put_curves(out: &mut Vec<u8>, curves: &CurveSet) {
-    put(out, &format!("{} {}", curves.voll, curves.floor));
-    put_repeats(out, &curves.pairs, |(mu, sigma)| format!("{mu} {sigma}"));
-}
-
-fn put_text(out: &mut Vec<u8>, text: &Text) {
-    put(out, &text.pieces.len().to_string());
-    for (times, piece) in &text.pieces {
-        put(out, &format!("{times} {}", piece.len()));
-        out.extend_from_slice(piece);
-        out.push(b'\n');
-    }
-}
-
-/// Reads the inputs back. `None` where the bytes are no cases.
+/// Reads the inputs back, each text as one piece. `None` where the bytes are
+/// no cases.
 pub fn decode(bytes: &[u8]) -> Option<Vec<Input>> {
     let mut reader = Reader { rest: bytes };
+    let mut text = Vec::new();
     let mut inputs = Vec::new();
-    loop {
-        inputs.push(match reader.take(2)? {
-            b"B\n" => Input::Book {
-                record: reader.record()?,
-                text: reader.text()?,
-            },
-            b"S\n" => Input::Settle {
-                record: reader.record()?,
-                voll: reader.number()?,
-                floor: reader.number()?,
-            },
-            b"R\n" => Input::Read {
-                text: reader.text()?,
-            },
-            b"W\n" => Input::Write {
-                curves: reader.curves()?,
-                length: reader.number()? as usize,
-            },
-            b"P\n" => Input::Price {
-                curves: reader.curves()?,
-                text: reader.text()?,
-            },
-            b"E\n" if reader.rest.is_empty() => return Some(inputs),
-            _ => return None,
-        });
+    for _ in 0..reader.number()? {
+        let end = reader.number()? as usize;
+        let stop = reader.number()? as usize;
+        let start = reader.number()? as usize;
+        text.truncate(start);
+        text.extend(reader.take(stop.checked_sub(start)?)?);
+        text.resize(end, reader.number()? as u8);
+        inputs.push(reader.input(&text)?);
     }
+    reader.rest.is_empty().then_some(inputs)
 }
 
 struct Reader<'a> {
@@ -111,59 +108,53 @@ impl<'a> Reader<'a> {
         Some(front)
     }
 
-    /// A number is ended by one space or byte 10.
     fn number(&mut self) -> Option<i64> {
-        let ends = |byte: &u8| matches!(byte, b' ' | b'\n');
-        let length = self.rest.iter().position(ends)?;
-        let digits = self.take(length)?;
-        self.take(1)?;
-        std::str::from_utf8(digits).ok()?.parse().ok()
-    }
-
-    /// 24 groups, given as repeats.
-    fn repeats<T: Copy>(
-        &mut self,
-        none: T,
-        one: impl Fn(&mut Self) -> Option<T>,
-    ) -> Option<[T; GROUPS]> {
-        let mut groups = [none; GROUPS];
-        let mut done = 0;
-        while done < GROUPS {
-            let times = self.number()? as usize;
-            let group = one(self)?;
-            groups.get_mut(done..done + times)?.fill(group);
-            done += times;
-        }
-        Some(groups)
+        let bytes = self.take(8)?.try_into().ok()?;
+        Some(i64::from_be_bytes(bytes))
     }
 
     fn record(&mut self) -> Option<Record> {
-        let groups = self.repeats(Group::default(), |reader| {
-            Some(Group {
-                count: reader.number()? as u64,
-                sum: reader.number()?,
-                squares: reader.number()?,
-            })
-        })?;
+        let mut groups = [Group::default(); GROUPS];
+        for group in &mut groups {
+            group.count = self.number()? as u64;
+            group.sum = self.number()?;
+            group.squares = self.number()?;
+        }
         Some(Record { groups })
     }
 
     fn curves(&mut self) -> Option<CurveSet> {
-        Some(CurveSet {
-            voll: self.number()?,
-            floor: self.number()?,
-            pairs: self.repeats((0, 0), |reader| Some((reader.number()?, reader.number()?)))?,
-        })
+        let (voll, floor) = (self.number()?, self.number()?);
+        let mut pairs = [(0, 0); GROUPS];
+        for pair in &mut pairs {
+            *pair = (self.number()?, self.number()?);
+        }
+        Some(CurveSet { voll, floor, pairs })
     }
 
-    fn text(&mut self) -> Option<Text> {
-        let mut text = Text::default();
-        for _ in 0..self.number()? {
-            let times = self.number()? as usize;
-            let length = self.number()? as usize;
-            text = text.then(times, self.take(length)?);
-            self.take(1)?;
-        }
-        Some(text)
+    fn input(&mut self, text: &[u8]) -> Option<Input> {
+        let length = text.len();
+        let text = Text::from(text);
+        Some(match self.number()? {
+            BOOK => Input::Book {
+                record: self.record()?,
+                text,
+            },
+            SETTLE => Input::Settle {
+                record: self.record()?,
+                voll: self.number()?,
+                floor: self.number()?,
+            },
+            READ => Input::Read { text },
+            WRITE => Input::Write {
+                curves: self.curves()?,
+                length,
+            },
+            PRICE => Input::Price {
+                curves: self.curves()?,
+                text,
+            },
+            _ => return None,
+        })
     }
 }

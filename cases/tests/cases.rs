@@ -1,11 +1,23 @@
 //! The cases as a whole: that they can be read back, and what they cover.
 
-use cases::{all_cases, answer, checksum, decode, encode, tally, Answer, Case, Input, CAN_REFUSE};
+use cases::{
+    all_cases, answer, checksum, decode, encode, tally, Answer, Case, Input, Text, CAN_REFUSE,
+};
 use reference::Refusal;
 use std::collections::BTreeSet;
 
 fn answers(cases: &[Case]) -> Vec<Answer> {
     cases.iter().map(|case| answer(&case.input)).collect()
+}
+
+/// The input with its text as one piece.
+fn in_one_piece(input: &Input) -> Input {
+    let mut input = input.clone();
+    if let Input::Book { text, .. } | Input::Read { text } | Input::Price { text, .. } = &mut input
+    {
+        *text = Text::from(text.bytes());
+    }
+    input
 }
 
 #[test]
@@ -15,7 +27,7 @@ fn cases_are_read_back_as_they_were_written() {
     let inputs = decode(&bytes).unwrap();
     assert_eq!(inputs.len(), cases.len());
     for (input, case) in inputs.iter().zip(&cases) {
-        assert_eq!(*input, case.input, "{}", case.label);
+        assert!(*input == in_one_piece(&case.input), "{}", case.label);
     }
     assert_eq!(decode(&bytes[..bytes.len() - 1]), None);
     assert_eq!(encode(&all_cases(1)), bytes);
@@ -27,7 +39,7 @@ fn there_are_enough_cases_and_they_are_small() {
     let cases = all_cases(1);
     assert!(cases.len() >= 2000);
     let answers: usize = answers(&cases).iter().map(|one| one.line().len() + 1).sum();
-    assert!(encode(&cases).len() + answers < 3_000_000);
+    assert!(encode(&cases).len() + answers < 4_000_000);
     for case in &cases {
         if let Input::Book { text, .. } | Input::Read { text } | Input::Price { text, .. } =
             &case.input

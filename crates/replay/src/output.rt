@@ -7,10 +7,6 @@ pub(crate) fn show(bytes: &[u8]) {
     io::write_all(STDOUT_FILENO, bytes);
 }
 
-pub(crate) fn end_line() {
-    show(b"\n");
-}
-
 // A space and a number without sign.
 pub(crate) fn show_count(n: u64) {
     show(b" ");
@@ -18,28 +14,27 @@ pub(crate) fn show_count(n: u64) {
 }
 
 // A space and a number.
-fn show_number(z: i64) {
-    if z < 0 {
-        show(b" -");
-        io::print_decimal(STDOUT_FILENO, magnitude(z));
+pub(crate) fn show_number(z: i64) {
+    if 0 <= z {
+        show_count(magnitude(z));
         return;
     }
-    show_count(magnitude(z));
+    show(b" -");
+    io::print_decimal(STDOUT_FILENO, magnitude(z));
 }
 
 // The refusal's number and its line.
-pub(crate) fn show_refusal(refusal: Refusal) {
+fn show_refusal(refusal: Refusal) {
     show(b"refused");
     show_count(refusal.number);
     show(b" line");
     show_count(refusal.line);
 }
 
-// The line of an answer: its numbers, or its refusal. 0 is no refusal's number.
+// An answer's numbers, or its refusal. 0 is no refusal's number.
 pub(crate) fn show_answer(refusal: Refusal, values: &[i64]) {
     if refusal.number != 0 {
         show_refusal(refusal);
-        end_line();
         return;
     }
     show(b"accepted");
@@ -48,5 +43,4 @@ pub(crate) fn show_answer(refusal: Refusal, values: &[i64]) {
         show_number(values[i]);
         i += 1;
     }
-    end_line();
 }

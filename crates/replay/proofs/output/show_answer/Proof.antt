@@ -13,9 +13,6 @@ abbrev μ-loop : tie.MeasureT-loop
 show-refusal-requires : tie.Need-show-refusal-requires Inv-loop μ-loop
 show-refusal-requires c κs = tt
 
-end-line-requires : tie.Need-end-line-requires Inv-loop μ-loop
-end-line-requires c κs = tt
-
 returns : tie.Need-returns Inv-loop μ-loop
 returns c = tt
 
@@ -46,9 +43,6 @@ loop-less c = omega arith
 loop-again : tie.Need-loop-again Inv-loop μ-loop
 loop-again c = tt
 
-end-line-requires-2 : tie.Need-end-line-requires-2 Inv-loop μ-loop
-end-line-requires-2 c κs = tt
-
 returns-2 : tie.Need-returns-2 Inv-loop μ-loop
 returns-2 c = tt
 
@@ -59,7 +53,6 @@ show-answer-spec =
     Inv-loop
     μ-loop
     show-refusal-requires
-    end-line-requires
     returns
     slice-aggregate-show
     show-requires
@@ -70,5 +63,4 @@ show-answer-spec =
     add-i
     loop-less
     loop-again
-    end-line-requires-2
     returns-2)

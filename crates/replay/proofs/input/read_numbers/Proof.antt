@@ -2,26 +2,20 @@ use mathlib.Core.Path.{_≡_}
 use Prim.Native.Nat.{_-_}
 use lib.ListN.{length, length-set}
 use native.Mathlib.Omega.{arith}
-use Rattle.replay.proofs.rows.rows_at.Statement.{statement}
-use Rattle.replay.proofs.rows.rows_at.Tie as tie
+use Rattle.replay.proofs.input.read_numbers.Statement.{statement}
+use Rattle.replay.proofs.input.read_numbers.Tie as tie
 
 abbrev Inv-loop : tie.InvT-loop
-Inv-loop cases at table₀ width alone cell₀ i₀ table cell i = length table ≡ length table₀
+Inv-loop fd values₀ i₀ values i = length values ≡ length values₀
 
 abbrev μ-loop : tie.MeasureT-loop
-μ-loop cases at table₀ width alone cell₀ i₀ table cell i = length table₀ - i
-
-add-t10 : tie.Need-add-t10 Inv-loop μ-loop
-add-t10 c = omega arith
+μ-loop fd values₀ i₀ values i = length values₀ - i
 
 loop-holds : tie.Need-loop-holds Inv-loop μ-loop
 loop-holds c = omega arith
 
-rem-cell-after : tie.Need-rem-cell-after Inv-loop μ-loop
-rem-cell-after c = omega arith
-
-cell-after-requires : tie.Need-cell-after-requires Inv-loop μ-loop
-cell-after-requires c κs = tt
+read-number-requires : tie.Need-read-number-requires Inv-loop μ-loop
+read-number-requires c κs = tt
 
 mul-value : tie.Need-mul-value Inv-loop μ-loop
 mul-value c = omega arith
@@ -44,16 +38,14 @@ same-length c = omega arith
 returns : tie.Need-returns Inv-loop μ-loop
 returns c = tt
 
-pub rows-at-spec : {M : Type 1} → statement M
-rows-at-spec =
+pub read-numbers-spec : {M : Type 1} → statement M
+read-numbers-spec =
     tie.close
     (tie.spec
     Inv-loop
     μ-loop
-    add-t10
     loop-holds
-    rem-cell-after
-    cell-after-requires
+    read-number-requires
     mul-value
     slice-set-from-value
     add-i

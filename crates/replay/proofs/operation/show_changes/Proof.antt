@@ -1,13 +1,13 @@
 use Prim.Native.Nat.{_-_}
 use native.Mathlib.Omega.{arith}
-use Rattle.replay.proofs.case.is_same.Statement.{statement}
-use Rattle.replay.proofs.case.is_same.Tie as tie
+use Rattle.replay.proofs.operation.show_changes.Statement.{statement}
+use Rattle.replay.proofs.operation.show_changes.Tie as tie
 
 abbrev Inv-loop : tie.InvT-loop
-Inv-loop one other i₀ i = Unit {0}
+Inv-loop before after i₀ i = Unit {0}
 
 abbrev μ-loop : tie.MeasureT-loop
-μ-loop one other i₀ i = 72 - i
+μ-loop before after i₀ i = 72 - i
 
 loop-holds : tie.Need-loop-holds Inv-loop μ-loop
 loop-holds c = tt
@@ -24,8 +24,14 @@ mul-if1-2 c = omega arith
 element-copy-out-if1-2 : tie.Need-element-copy-out-if1-2 Inv-loop μ-loop
 element-copy-out-if1-2 c = omega arith
 
-returns : tie.Need-returns Inv-loop μ-loop
-returns c = tt
+mul-show-number : tie.Need-mul-show-number Inv-loop μ-loop
+mul-show-number c = omega arith
+
+element-copy-out-show-number : tie.Need-element-copy-out-show-number Inv-loop μ-loop
+element-copy-out-show-number c = omega arith
+
+show-number-requires : tie.Need-show-number-requires Inv-loop μ-loop
+show-number-requires c κs = tt
 
 add-i : tie.Need-add-i Inv-loop μ-loop
 add-i c = omega arith
@@ -36,11 +42,11 @@ loop-less c = omega arith
 loop-again : tie.Need-loop-again Inv-loop μ-loop
 loop-again c = tt
 
-returns-2 : tie.Need-returns-2 Inv-loop μ-loop
-returns-2 c = tt
+returns : tie.Need-returns Inv-loop μ-loop
+returns c = tt
 
-pub is-same-spec : {M : Type 1} → statement M
-is-same-spec =
+pub show-changes-spec : {M : Type 1} → statement M
+show-changes-spec =
     tie.close
     (tie.spec
     Inv-loop
@@ -50,8 +56,10 @@ is-same-spec =
     element-copy-out-if1
     mul-if1-2
     element-copy-out-if1-2
-    returns
+    mul-show-number
+    element-copy-out-show-number
+    show-number-requires
     add-i
     loop-less
     loop-again
-    returns-2)
+    returns)

@@ -1,14 +1,14 @@
 use Prim.Native.Nat.{_-_}
 use lib.ListN.{length}
 use native.Mathlib.Omega.{arith}
-use Rattle.replay.proofs.writing.checksum.Statement.{statement}
-use Rattle.replay.proofs.writing.checksum.Tie as tie
+use Rattle.replay.proofs.operation.checksum.Statement.{statement}
+use Rattle.replay.proofs.operation.checksum.Tie as tie
 
 abbrev Inv-loop : tie.InvT-loop
-Inv-loop buffer sum₀ i₀ sum i = Unit {0}
+Inv-loop bytes sum₀ i₀ sum i = Unit {0}
 
 abbrev μ-loop : tie.MeasureT-loop
-μ-loop buffer sum₀ i₀ sum i = length buffer - i
+μ-loop bytes sum₀ i₀ sum i = length bytes - i
 
 loop-holds : tie.Need-loop-holds Inv-loop μ-loop
 loop-holds c = tt
@@ -16,17 +16,17 @@ loop-holds c = tt
 mul-sum : tie.Need-mul-sum Inv-loop μ-loop
 mul-sum c = omega arith
 
-shared-slice-read-wide : tie.Need-shared-slice-read-wide Inv-loop μ-loop
-shared-slice-read-wide c = omega arith
+shared-slice-read-sum : tie.Need-shared-slice-read-sum Inv-loop μ-loop
+shared-slice-read-sum c = omega arith
 
-wide-requires : tie.Need-wide-requires Inv-loop μ-loop
-wide-requires c κs = tt
+cast-sum : tie.Need-cast-sum Inv-loop μ-loop
+cast-sum c = omega (arith, c .shared-slice-known .given (c .before .before .loop .i))
 
 add-sum : tie.Need-add-sum Inv-loop μ-loop
-add-sum c = omega arith
+add-sum c = omega (arith, c .shared-slice-known .given (c .before .before .loop .i))
 
 add-sum-2 : tie.Need-add-sum-2 Inv-loop μ-loop
-add-sum-2 c = omega arith
+add-sum-2 c = omega (arith, c .shared-slice-known .given (c .before .before .loop .i))
 
 add-i : tie.Need-add-i Inv-loop μ-loop
 add-i c = omega arith
@@ -48,8 +48,8 @@ checksum-spec =
     μ-loop
     loop-holds
     mul-sum
-    shared-slice-read-wide
-    wide-requires
+    shared-slice-read-sum
+    cast-sum
     add-sum
     add-sum-2
     add-i

@@ -2,23 +2,26 @@ use mathlib.Core.Path.{_≡_}
 use Prim.Native.Nat.{_-_}
 use lib.ListN.{length, length-set}
 use native.Mathlib.Omega.{arith}
-use Rattle.replay.proofs.writing.fill.Statement.{statement}
-use Rattle.replay.proofs.writing.fill.Tie as tie
+use Rattle.replay.proofs.case.fill.Statement.{statement}
+use Rattle.replay.proofs.case.fill.Tie as tie
 
 abbrev Inv-loop : tie.InvT-loop
-Inv-loop buffer₀ i₀ buffer i = length buffer ≡ length buffer₀
+Inv-loop fd rest₀ byte i₀ rest i = length rest ≡ length rest₀
 
 abbrev μ-loop : tie.MeasureT-loop
-μ-loop buffer₀ i₀ buffer i = length buffer₀ - i
+μ-loop fd rest₀ byte i₀ rest i = length rest₀ - i
+
+read-count-requires : tie.Need-read-count-requires Inv-loop μ-loop
+read-count-requires c κs = tt
+
+cast-byte : tie.Need-cast-byte Inv-loop μ-loop
+cast-byte c = omega arith
 
 loop-holds : tie.Need-loop-holds Inv-loop μ-loop
 loop-holds c = omega arith
 
-cast-buffer : tie.Need-cast-buffer Inv-loop μ-loop
-cast-buffer c = omega arith
-
-slice-write-buffer : tie.Need-slice-write-buffer Inv-loop μ-loop
-slice-write-buffer c = omega arith
+slice-write-rest : tie.Need-slice-write-rest Inv-loop μ-loop
+slice-write-rest c = omega arith
 
 add-i : tie.Need-add-i Inv-loop μ-loop
 add-i c = omega arith
@@ -41,9 +44,10 @@ fill-spec =
     (tie.spec
     Inv-loop
     μ-loop
+    read-count-requires
+    cast-byte
     loop-holds
-    cast-buffer
-    slice-write-buffer
+    slice-write-rest
     add-i
     loop-less
     loop-again

@@ -1,0 +1,113 @@
+// The five operations, each on the text and on the numbers that follow in the file, and what is written of their answers.
+use crate::input::read_count;
+use crate::input::read_number;
+use crate::input::read_numbers;
+use crate::output::show;
+use crate::output::show_answer;
+use crate::output::show_count;
+use crate::output::show_number;
+use ordc::booking::ordc_book;
+use ordc::booking::settle::ordc_settle;
+use ordc::curve_text::ordc_read_curves;
+use ordc::curve_text::write::ordc_write_curves;
+use ordc::price::ordc_price;
+use ordc::refusal::Refusal;
+
+// Each number of a record that did not stay as it was.
+fn show_changes(before: &[i64; 72], after: &[i64; 72]) {
+    let mut i: usize = 0;
+    while i < 72 {
+        if before[i] != after[i] {
+            show_number(after[i]);
+        }
+        i += 1;
+    }
+}
+
+// A refused booking has to leave the record as it was: what changed is shown after the refusal, where nothing is due.
+fn show_booking(refusal: Refusal, before: &[i64; 72], after: &[i64; 72]) {
+    show_answer(refusal, after);
+    if refusal.number != 0 {
+        show_changes(before, after);
+    }
+}
+
+fn book(fd: i32, text: &[u8]) {
+    let mut history = [0i64; 72];
+    read_numbers(fd, &mut history);
+    let before = history;
+    let refusal = ordc_book(&mut history, text);
+    show_booking(refusal, &before, &history);
+}
+
+fn show_curves(refusal: Refusal, curves: &[i64; 50]) {
+    show_answer(refusal, curves);
+}
+
+fn settle(fd: i32) {
+    let mut history = [0i64; 72];
+    read_numbers(fd, &mut history);
+    let mut curves = [0i64; 50];
+    let refusal = ordc_settle(&history, read_number(fd), read_number(fd), &mut curves);
+    show_curves(refusal, &curves);
+}
+
+fn read(text: &[u8]) {
+    let mut curves = [0i64; 50];
+    let refusal = ordc_read_curves(text, &mut curves);
+    show_curves(refusal, &curves);
+}
+
+fn checksum(bytes: &[u8]) -> u64 {
+    let mut sum: u64 = 0;
+    let mut i: usize = 0;
+    while i < bytes.len() {
+        sum = (257 * (sum % 1000000007) + bytes[i] as u64 + 1) % 1000000007;
+        i += 1;
+    }
+    sum
+}
+
+// What stands between the answer of a writing and the checksum.
+fn show_written(refusal: Refusal, length: usize) {
+    if refusal.number != 0 {
+        show(b" buffer");
+        return;
+    }
+    show_count(length as u64);
+}
+
+// The text is the buffer that is written to.
+fn write(fd: i32, text: &mut [u8]) {
+    let mut curves = [0i64; 50];
+    read_numbers(fd, &mut curves);
+    let mut length: usize = 0;
+    let refusal = ordc_write_curves(&curves, text, &mut length);
+    show_answer(refusal, &[]);
+    show_written(refusal, length);
+    show_count(checksum(text));
+}
+
+fn show_prices(refusal: Refusal, prices: &[i64; 6]) {
+    show_answer(refusal, prices);
+}
+
+fn price(fd: i32, text: &[u8]) {
+    let mut curves = [0i64; 50];
+    read_numbers(fd, &mut curves);
+    let mut prices = [0i64; 6];
+    let refusal = ordc_price(&curves, text, &mut prices);
+    show_prices(refusal, &prices);
+}
+
+// The operation whose number follows in the file.
+pub(crate) fn operate(fd: i32, text: &mut [u8]) {
+    let operation = read_count(fd, 4);
+    match operation {
+        0 => book(fd, text),
+        1 => settle(fd),
+        2 => read(text),
+        3 => write(fd, text),
+        _ => price(fd, text),
+    }
+}
