@@ -1,7 +1,7 @@
 // What the readers of a text answer, and the fault that an answer carries: each answer is taken apart by `let .. else`, and the fault of a refused one is
 // handed on.
 ghost use mathlib.Core.Path.{_≡_};
-ghost use Rattle.answers.specs.Answers.{fault, lineFault, numberFault, wordFault, blockFault, endAt};
+ghost use Rattle.answers.specs.Answers.{lineFault, numberFault, wordFault, blockFault, endAt};
 use text::refusal::Fault;
 
 // What the line reader finds at a position.
@@ -33,13 +33,6 @@ pub enum Block {
     Refused(Fault),
 }
 
-// A fault of a number at a position; the number 0 is no fault, and the position then where reading goes on.
-fn fault_at(number: u64, at: usize) -> Fault
-    ensures { λ r. ⌜ r ≡ fault number at ⌝ }
-{
-    Fault { number, at }
-}
-
 // The fault of a refused line.
 pub fn line_fault(line: Line) -> Fault
     ensures { λ r. ⌜ r ≡ lineFault line ⌝ }
@@ -49,8 +42,8 @@ pub fn line_fault(line: Line) -> Fault
         Line::Value {
             start: _,
             end: _,
-            next,
-        } => fault_at(0, next),
+            next: at,
+        } => Fault { number: 0, at },
     }
 }
 
@@ -60,7 +53,7 @@ pub fn number_fault(line: NumberLine) -> Fault
 {
     match line {
         NumberLine::Refused(fault) => fault,
-        NumberLine::Value { value: _, next } => fault_at(0, next),
+        NumberLine::Value { value: _, next: at } => Fault { number: 0, at },
     }
 }
 
@@ -70,7 +63,7 @@ pub fn word_fault(line: WordLine) -> Fault
 {
     match line {
         WordLine::Refused(fault) => fault,
-        WordLine::Index { index: _, next } => fault_at(0, next),
+        WordLine::Index { index: _, next: at } => Fault { number: 0, at },
     }
 }
 
@@ -80,7 +73,7 @@ pub fn block_fault(block: Block) -> Fault
 {
     match block {
         Block::Refused(fault) => fault,
-        Block::Read { next } => fault_at(0, next),
+        Block::Read { next: at } => Fault { number: 0, at },
     }
 }
 

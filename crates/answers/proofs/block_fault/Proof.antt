@@ -8,14 +8,11 @@ enum-known-block c = c .match .keys1
 enum-known-block-2 : tie.Need-enum-known-block-2
 enum-known-block-2 c = c .match .keys2
 
-fault-at-requires : tie.Need-fault-at-requires
-fault-at-requires c κs = tt
-
 returns : tie.Need-returns
 returns c = rw (c .before .block .given .1)
 
 returns-2 : tie.Need-returns-2
-returns-2 c = rw (c .before .before .block2 .given .1) (c .fault-at .ensures)
+returns-2 c = rw (c .before .block2 .given .1)
 
 pub block-fault-spec : {M : Type 1} → statement M
-block-fault-spec = tie.close (tie.spec enum-known-block enum-known-block-2 fault-at-requires returns returns-2)
+block-fault-spec = tie.close (tie.spec enum-known-block enum-known-block-2 returns returns-2)

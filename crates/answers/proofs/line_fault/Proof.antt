@@ -8,14 +8,11 @@ enum-known-line c = c .match .keys1
 enum-known-line-2 : tie.Need-enum-known-line-2
 enum-known-line-2 c = c .match .keys2
 
-fault-at-requires : tie.Need-fault-at-requires
-fault-at-requires c κs = tt
-
 returns : tie.Need-returns
 returns c = rw (c .before .line .given .1)
 
 returns-2 : tie.Need-returns-2
-returns-2 c = rw (c .before .before .line2 .given .1) (c .fault-at .ensures)
+returns-2 c = rw (c .before .line2 .given .1)
 
 pub line-fault-spec : {M : Type 1} → statement M
-line-fault-spec = tie.close (tie.spec enum-known-line enum-known-line-2 fault-at-requires returns returns-2)
+line-fault-spec = tie.close (tie.spec enum-known-line enum-known-line-2 returns returns-2)
