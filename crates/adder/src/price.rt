@@ -2,10 +2,11 @@
 ghost use Prim.Native.Nat.{_≤_};
 ghost use mathlib.Core.Path.{_≡_};
 ghost use mathlib.Core.Bool.{true};
-ghost use lib.IntN.{natAbs};
+ghost use lib.IntN.{pos, natAbs, _-ℤ_};
+ghost use Rattle.integer.specs.Order.{maxℤ};
 ghost use Rattle.curve_set.specs.Curves.{curvesInRange};
 ghost use Rattle.adder.specs.Sums.{sumsPossible, headerFault};
-ghost use Rattle.adder.specs.Price.{pairFor, valueOfReserve, rounded, pricesOf, sumsPriced};
+ghost use Rattle.adder.specs.Price.{pairFor, rounded, pricesOf, sumsPriced};
 use crate::reserve::higher;
 use crate::reserve::online_reserve;
 use crate::reserve::total_reserve;
@@ -39,11 +40,11 @@ pub enum Pricing {
 }
 
 // v = max(0, VOLL - lambda).
-fn value_of_reserve(curves: CurveSet, header: Header) -> u64
-    requires { ⌜ curvesInRange curves ≡ true ⌝ ∗ ⌜ headerFault header ≡ 0 ⌝ }
-    ensures { λ r. ⌜ r ≡ valueOfReserve curves header ⌝ }
+fn value_of_reserve(voll: i64, lambda: i64) -> u64
+    requires { ⌜ natAbs voll ≤ 2000000 ⌝ ∗ ⌜ natAbs lambda ≤ 2000000 ⌝ }
+    ensures { λ r. ⌜ r ≡ natAbs (maxℤ (pos 0) (voll -ℤ lambda)) ⌝ }
 {
-    magnitude(higher(0, curves.voll - header.lambda))
+    magnitude(higher(0, voll - lambda))
 }
 
 // A value times a share of two, rounded half up.
@@ -52,22 +53,6 @@ fn rounded_share(value: u64, share: u64) -> u64
     ensures { λ r. ⌜ r ≡ rounded value share ⌝ }
 {
     (value * share + 1000000000) / 2000000000
-}
-
-// A number of a curve set, in half the width.
-fn narrow(z: i64) -> i32
-    requires { ⌜ natAbs z ≤ 20000000 ⌝ }
-    ensures { λ r. ⌜ r ≡ z ⌝ }
-{
-    z as i32
-}
-
-// The magnitude of one.
-fn narrow_magnitude(z: i64) -> u32
-    requires { ⌜ natAbs z ≤ 20000000 ⌝ }
-    ensures { λ r. ⌜ r ≡ natAbs z ⌝ }
-{
-    magnitude(z) as u32
 }
 
 // The mean and the spread of the header's group.
@@ -85,14 +70,14 @@ fn both_prices(curves: CurveSet, header: Header, sums: Sums) -> Prices
     ensures { λ r. ⌜ r ≡ pricesOf curves header sums ⌝ }
 {
     let pair = pair_for(curves, header);
-    let floor = narrow(curves.floor);
-    let mean = narrow(pair.mean);
-    let spread = narrow_magnitude(pair.spread);
+    let floor = curves.floor as i32;
+    let mean = pair.mean as i32;
+    let spread = magnitude(pair.spread) as u32;
     let rs = online_reserve(header, sums);
     let rsns = total_reserve(header, sums);
     let pis = online_probability(rs, floor, mean, spread);
     let pins = offline_probability(rsns, floor, mean, spread);
-    let value = value_of_reserve(curves, header);
+    let value = value_of_reserve(curves.voll, header.lambda);
     Prices {
         rs,
         rsns,
@@ -107,10 +92,8 @@ fn both_prices(curves: CurveSet, header: Header, sums: Sums) -> Prices
 pub fn price_sums(curves: CurveSet, header: Header, sums: Sums) -> Pricing
     ensures { λ r. ⌜ r ≡ sumsPriced curves header sums ⌝ }
 {
-    if !curves_in_range(curves) {
-        return Pricing::Refused(Refusal { number: 1, line: 0 });
-    }
-    if !sums_possible(sums) {
+    let possible = curves_in_range(curves) & sums_possible(sums);
+    if !possible {
         return Pricing::Refused(Refusal { number: 1, line: 0 });
     }
     let line = header_fault(header);

@@ -3,19 +3,12 @@ ghost use Prim.Native.Nat.{_≤_};
 ghost use mathlib.Core.Path.{_≡_};
 ghost use mathlib.Core.Bool.{true};
 ghost use lib.IntN.{natAbs};
-ghost use Rattle.integer.specs.Order.{minℤ, maxℤ};
+ghost use Rattle.integer.specs.Order.{maxℤ};
 ghost use Rattle.adder.specs.Sums.{sumsPossible, headerFault};
 ghost use Rattle.adder.specs.Reserve.{twiceLoads, twiceOnline, discounted, onlineReserve, totalReserve};
 use crate::sums::Header;
 use crate::sums::Sums;
 use integer::floor_div;
-
-// The lower of two numbers.
-fn lower(x: i64, y: i64) -> i64
-    ensures { λ r. ⌜ r ≡ minℤ x y ⌝ }
-{
-    if x <= y { x } else { y }
-}
 
 // The higher of two numbers.
 pub(crate) fn higher(x: i64, y: i64) -> i64
@@ -29,7 +22,9 @@ fn twice_loads(sums: Sums) -> i64
     requires { ⌜ sumsPossible sums ≡ true ⌝ }
     ensures { λ r. ⌜ r ≡ twiceLoads sums ⌝ }
 {
-    lower(2 * higher(sums.validated, 0), 3 * sums.responsive)
+    let net = 2 * higher(sums.validated, 0);
+    let cap = 3 * sums.responsive;
+    if net <= cap { net } else { cap }
 }
 
 // Twice G + C + L.

@@ -5,7 +5,9 @@ use lib.IntN.{pos, _*ℤ_}
 use mir.Facts.{toZ-ofZ}
 use mir.Syntax.{w64}
 use mir.Val.{SFits, toZ, ofZ}
-use Rattle.integer.specs.Order.{maxℤ}
+use Rattle.integer.specs.Order.{minℤ, maxℤ}
+use Rattle.integer.proofs.Order.{le-leZ, lt-leZ}
+use Rattle.integer.proofs.Signed.{at-most-taken, at-most-left}
 use Rattle.integer.proofs.Bounds.{abs-fits, abs-mul}
 use Rattle.adder.specs.Reserve.{twiceLoads}
 use Rattle.adder.specs.declared.sums.Sums.{Sums}
@@ -34,23 +36,27 @@ rrs : (c : tie.After-struct-told2) →
     toZ w64 (ofZ w64 (c .before .before .before .before .args .sums .responsive)) ≡ c .before .before .before .before .args .sums .responsive
 rrs c = toZ-ofZ (sfits-of (c .struct-told2 .given .1 .1 .1 .1 .0 .1))
 
-mul-lower : tie.Need-mul-lower
-mul-lower c = let start = c .before .before in rw (net c) (twice-fits (start .args .sums) (bound start))
+mul-net : tie.Need-mul-net
+mul-net c = let start = c .before .before in rw (net c) (twice-fits (start .args .sums) (bound start))
 
-mul-lower-2 : tie.Need-mul-lower-2
-mul-lower-2 c = let start = c .before .before .before .before in rw (rrs c) (thrice-fits (start .args .sums) (bound start))
-
-lower-requires : tie.Need-lower-requires
-lower-requires c κs = tt
+mul-cap : tie.Need-mul-cap
+mul-cap c = let start = c .before .before .before .before in rw (rrs c) (thrice-fits (start .args .sums) (bound start))
 
 returns : tie.Need-returns
-unfolding twiceLoads
+unfolding twiceLoads minℤ
 returns c =
-    let after = c .before .before .before in
-    let start = after .before .before in
-    let s = start .args .sums in
-    rw (toZ-ofZ (sfits-of (c .lower .ok)), c .lower .ensures)
-    (rw (net after, toZ-ofZ (twice-fits s (bound start)), rrs (c .before), toZ-ofZ (thrice-fits s (bound start))))
+    let told = c .before in
+    let after = told .before .before in
+    rw (toZ-ofZ (mul-net after), net after)
+    (rw (le-leZ (rw (net after, rrs told) at (at-most-taken _ _ (mul-net after) (mul-cap told) (c .if1 .taken)))))
+
+returns-2 : tie.Need-returns-2
+unfolding twiceLoads minℤ
+returns-2 c =
+    let told = c .before in
+    let after = told .before .before in
+    rw (toZ-ofZ (mul-cap told), rrs told)
+    (rw (lt-leZ (rw (net after, rrs told) at (at-most-left _ _ (mul-net after) (mul-cap told) (c .if1 .left)))))
 
 pub twice-loads-spec : {M : Type 1} → statement M
-twice-loads-spec = tie.close (tie.spec higher-requires mul-lower mul-lower-2 lower-requires returns)
+twice-loads-spec = tie.close (tie.spec higher-requires mul-net mul-cap returns returns-2)
