@@ -21,20 +21,14 @@ struct Quotient {
     rest: u64,
 }
 
-fn wide(x: u32) -> u64
-    ensures { λ r. ⌜ r ≡ x ⌝ }
-{
-    x as u64
-}
-
 // The table is built once for the two reads.
 fn interval_at(k: usize) -> Interval
     requires { ⌜ k < 500 ⌝ }
     ensures { λ r. ⌜ (r .low ≡ knot k) × (r .step ≡ knot (suc k) - knot k) ⌝ }
 {
     let table = KNOTS;
-    let low = wide(table[k]);
-    let high = wide(table[k + 1]);
+    let low = table[k] as u64;
+    let high = table[k + 1] as u64;
     Interval {
         low,
         step: high - low,

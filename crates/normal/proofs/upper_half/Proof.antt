@@ -1,17 +1,30 @@
 -- `normal::upper_half` meets its contract: 10^9 from 500 on, and below that what lies between two knots.
 -- Assumes nothing.
 use mathlib.Core.Path.{_≡_, sym}
-use Prim.Native.Nat.{_+_, _/_}
+use Prim.Native.Nat.{ℕ, suc, _+_, _-_, _≤_, _<_}
 use native.Mathlib.Nat.{le-div-iff-mul-le, div-lt-iff-lt-mul, mod-lt}
 use native.Mathlib.Omega.{arith}
+use mir.Syntax.{w64}
+use mir.Val.{Fits}
+use Rattle.normal.specs.Knot.{knot}
 use Rattle.normal.specs.Normal.{interpolated, upper}
 use Rattle.normal.proofs.Table.{knot-rises}
 use Rattle.normal.proofs.Order.{upper-above, upper-inside, upper-range}
 use Rattle.normal.proofs.upper_half.Statement.{statement}
 use Rattle.normal.proofs.upper_half.Tie as tie
 
+-- on plain numbers
+step-small : {k step : ℕ} → k < 500 → step ≡ knot (suc k) - knot k → step < 4000000
+step-small {k} h e = omega (arith, knot-rises k h)
+
+fits : {n : ℕ} → n ≤ 1000000000 → Fits w64 n
+fits h = omega arith
+
 returns : tie.Need-returns
 returns c = sym (upper-above (c .before .args .numerator) (c .before .args .denominator) (omega arith))
+
+positive : (c : tie.Else1) → 0 < c .before .args .denominator
+positive c = omega arith
 
 div-k : tie.Need-div-k
 div-k c = omega arith
@@ -19,35 +32,37 @@ div-k c = omega arith
 returns-2 : tie.Need-returns-2
 returns-2 c =
     let a = c .before .before .args in
-    sym (upper-above (a .numerator) (a .denominator) (le-div-iff-mul-le (omega arith) .0 (c .if2 .taken)))
+    sym (upper-above (a .numerator) (a .denominator) (le-div-iff-mul-le (positive (c .before)) .0 (c .if2 .taken)))
 
 interval-at-requires : tie.Need-interval-at-requires
-interval-at-requires c κs = omega arith
+interval-at-requires c κs = c .if2 .left
 
 rem-share : tie.Need-rem-share
-rem-share c = omega arith
+rem-share c = div-k (c .before .before)
 
 share-requires : tie.Need-share-requires
 share-requires c κs =
     let a = c .before .before .before .args in
-    omega (
-      arith,
-      mod-lt (a .numerator) {m = a .denominator} (omega arith),
-      knot-rises (a .numerator / a .denominator) (omega arith),
-    )
+    (mod-lt (a .numerator) {m = a .denominator} (positive (c .before .before)), step-small (c .before .if2 .left) (c .interval-at .ensures .1))
 
 value : (c : tie.After-struct-known) →
     c .before .before .interval-at .result .low + c .before .share .result
     ≡ upper (c .before .before .before .before .before .args .numerator) (c .before .before .before .before .before .args .denominator)
 unfolding interpolated
 value c =
-    let a = c .before .before .before .before .before .args in
-    cc (upper-inside (a .numerator) (a .denominator) (div-lt-iff-lt-mul (omega arith) .0 (c .before .before .before .if2 .left)))
+    let i = c .before .before in
+    let a = i .before .before .before .args in
+    rw (
+      c .before .share .ensures,
+      i .interval-at .ensures .0,
+      i .interval-at .ensures .1,
+      upper-inside (a .numerator) (a .denominator) (div-lt-iff-lt-mul (positive (i .before .before)) .0 (i .before .if2 .left)),
+    )
 
 add-result : tie.Need-add-result
 add-result c =
     let a = c .before .before .before .before .before .args in
-    omega (arith, value c, upper-range (a .numerator) (a .denominator))
+    rw (value c) (fits (upper-range (a .numerator) (a .denominator) .1))
 
 returns-3 : tie.Need-returns-3
 returns-3 c = value c
