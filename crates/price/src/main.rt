@@ -3,9 +3,13 @@ use libc::STDIN_FILENO;
 use libc::STDOUT_FILENO;
 use writer::Written;
 
+// Room for one byte more than the most that is accepted, so that a longer input is seen as such.
+fn input_space() -> [u8; 65537] {
+    [0; 65537]
+}
+
 fn main() {
-    // One byte more than the most that is accepted, so that a longer input is seen as such.
-    let mut input = [0u8; 65537];
+    let mut input = input_space();
     let n = io::read_full(STDIN_FILENO, &mut input);
     let mut output = [0u8; 256];
     let written = price_text::price_text(&input[..n], &mut output);
