@@ -7,8 +7,7 @@ use mathlib.Core.Path.{_≡_, refl, ap}
 use lib.IntN.{ℤ, pos}
 use lib.ListN.{length, take, drop, getD, set}
 use lib.Seq.{drop-cons, drop-drop, getD-drop, lt-length-set, take-suc-set}
-use Rattle.block.specs.Block.{value}
-use Rattle.curve_values.specs.CurveValues.{pairValues, curveValues, pairsOf, curvesOf}
+use Rattle.curve_values.specs.CurveValues.{pairValues, curveValues, pairAt, pairsOf, curvesOf}
 use Rattle.curve_set.specs.declared.Pair.{Pair}
 use Rattle.curve_set.specs.declared.CurveSet.{CurveSet}
 
@@ -33,7 +32,7 @@ values-more pairs values i h k =
 pub pairs-more :
     (pairs : List Pair) (values : List ℤ) (i n : ℕ) → i < length pairs →
     take i pairs ++ pairsOf (suc n) (drop (2 + 2 * i) values) ≡
-    take (i + 1) (set pairs i (record { mean = value values (2 + 2 * i); spread = value values (3 + 2 * i) })) ++ pairsOf n (drop (2 + 2 * (i + 1)) values)
+    take (i + 1) (set pairs i (pairAt values i)) ++ pairsOf n (drop (2 + 2 * (i + 1)) values)
 unfolding pairsOf
 pairs-more pairs values i n h =
     let here : 2 + 2 * i + 0 ≡ 2 + 2 * i = omega arith in
@@ -42,7 +41,7 @@ pairs-more pairs values i n h =
     rw (
       next,
       add-one i,
-      take-suc-set pairs i (record { mean = value values (2 + 2 * i); spread = value values (3 + 2 * i) }) h,
+      take-suc-set pairs i (pairAt values i) h,
       getD-drop (2 + 2 * i) values 0 (pos 0),
       getD-drop (2 + 2 * i) values 1 (pos 0),
       drop-drop 2 (2 + 2 * i) values,

@@ -1,5 +1,5 @@
 -- The values of a curve set in the order of its lines, and the set of such values.
-use Prim.Native.Nat.{ℕ, zero, suc}
+use Prim.Native.Nat.{ℕ, zero, suc, _+_, _*_}
 use mathlib.Core.List.{List, [], _∷_}
 use lib.IntN.{ℤ}
 use lib.ListN.{drop}
@@ -14,6 +14,10 @@ pairValues (pair ∷ pairs) = pair .mean ∷ pair .spread ∷ pairValues pairs
 -- a curve set's values in the order of its lines
 unfoldable pub curveValues : CurveSet → List ℤ
 curveValues curves = curves .voll ∷ curves .floor ∷ pairValues (curves .pairs)
+
+-- the pair of a group, from its places
+abbrev pub pairAt : List ℤ → ℕ → Pair
+pairAt values group = record { mean = value values (2 + 2 * group); spread = value values (3 + 2 * group) }
 
 unfoldable pub pairsOf : ℕ → List ℤ → List Pair
 pairsOf zero values = []

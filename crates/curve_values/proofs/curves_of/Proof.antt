@@ -1,10 +1,9 @@
 -- `curve_values::curves_of` meets its contract. The invariant: the pairs so far, and then those of the values that are left, are the pairs of the values.
 use borrow.Author.Needs.{sfits-of}
-use Prim.Native.Nat.{ℕ, suc, _+_, _*_, _-_, _≤_, _<_}
+use Prim.Native.Nat.{suc, _+_, _*_, _-_, _≤_, _<_}
 use mathlib.Core.List.{_++_, append-nil}
-use mathlib.Core.Path.{_≡_, refl, sym, ap, ap₂, _∙_}
-use lib.IntN.{ℤ}
-use lib.ListN.{length, take, drop, set, length-set}
+use mathlib.Core.Path.{_≡_, refl, _∙_}
+use lib.ListN.{length, take, drop, length-set}
 use lib.Seq.{take-all}
 use mir.Facts.{toZ-ofZ}
 use Rattle.curve_values.specs.CurveValues.{pairsOf}
@@ -23,29 +22,8 @@ abbrev μ-loop : tie.MeasureT-loop
 loop-holds : tie.Need-loop-holds Inv-loop μ-loop
 loop-holds c = (omega arith, refl, refl)
 
-mul-mean : tie.Need-mul-mean Inv-loop μ-loop
-mul-mean c = omega arith
-
-add-mean : tie.Need-add-mean Inv-loop μ-loop
-add-mean c = omega arith
-
-mul-mean-2 : tie.Need-mul-mean-2 Inv-loop μ-loop
-mul-mean-2 c = omega arith
-
-array-copy-out-mean : tie.Need-array-copy-out-mean Inv-loop μ-loop
-array-copy-out-mean c = omega arith
-
-mul-spread : tie.Need-mul-spread Inv-loop μ-loop
-mul-spread c = omega arith
-
-add-spread : tie.Need-add-spread Inv-loop μ-loop
-add-spread c = omega arith
-
-mul-spread-2 : tie.Need-mul-spread-2 Inv-loop μ-loop
-mul-spread-2 c = omega arith
-
-array-copy-out-spread : tie.Need-array-copy-out-spread Inv-loop μ-loop
-array-copy-out-spread c = omega arith
+pair-at-requires : tie.Need-pair-at-requires Inv-loop μ-loop
+pair-at-requires c κs = c .before .loop-test .taken
 
 mul-pairs : tie.Need-mul-pairs Inv-loop μ-loop
 mul-pairs c = omega arith
@@ -68,10 +46,7 @@ loop-again c =
     let left : 24 - loop .i ≡ suc (24 - (loop .i + 1)) = omega (arith, turn .loop-test .taken) in (
       omega (arith, turn .loop-test .taken),
       simp length-set (loop .inv .1),
-      loop .inv .2 ∙ ap (λ (n : ℕ). take (loop .i) (loop .pairs) ++ pairsOf n (drop (2 + 2 * loop .i) values)) left
-          ∙ pairs-more (loop .pairs) values (loop .i) (24 - (loop .i + 1)) inside
-          ∙ ap₂ (λ (mean spread : ℤ). take (loop .i + 1) (set (loop .pairs) (loop .i) (record { mean = mean; spread = spread })) ++ pairsOf (24 - (loop .i + 1)) (drop (2 + 2 * (loop .i + 1)) values))
-          (sym (toZ-ofZ (sfits-of (c .before .mean .given)))) (sym (toZ-ofZ (sfits-of (c .spread .given)))),
+      loop .inv .2 ∙ rw (left, c .pair-at .ensures) (pairs-more (loop .pairs) values (loop .i) (24 - (loop .i + 1)) inside),
     )
 
 array-copy-out-voll : tie.Need-array-copy-out-voll Inv-loop μ-loop
@@ -97,14 +72,7 @@ curves-of-spec =
     Inv-loop
     μ-loop
     loop-holds
-    mul-mean
-    add-mean
-    mul-mean-2
-    array-copy-out-mean
-    mul-spread
-    add-spread
-    mul-spread-2
-    array-copy-out-spread
+    pair-at-requires
     mul-pairs
     array-set-from-pairs
     add-i

@@ -34,35 +34,14 @@ loop-holds c =
     let g = c .before .struct-told .given in
     (omega arith, refl, rw (toZ-ofZ (sfits-of (g .0 .1)), toZ-ofZ (sfits-of (g .1 .0 .1))))
 
-mul-pair : tie.Need-mul-pair Inv-loop μ-loop
-mul-pair c = omega arith
+mul-lay-pair : tie.Need-mul-lay-pair Inv-loop μ-loop
+mul-lay-pair c = omega arith
 
-element-copy-out-pair : tie.Need-element-copy-out-pair Inv-loop μ-loop
-element-copy-out-pair c = omega arith
+element-copy-out-lay-pair : tie.Need-element-copy-out-lay-pair Inv-loop μ-loop
+element-copy-out-lay-pair c = omega arith
 
-mul-values : tie.Need-mul-values Inv-loop μ-loop
-mul-values c = omega arith
-
-add-values : tie.Need-add-values Inv-loop μ-loop
-add-values c = omega arith
-
-mul-values-2 : tie.Need-mul-values-2 Inv-loop μ-loop
-mul-values-2 c = omega arith
-
-array-set-from-values-3 : tie.Need-array-set-from-values-3 Inv-loop μ-loop
-array-set-from-values-3 c = omega arith
-
-mul-values-3 : tie.Need-mul-values-3 Inv-loop μ-loop
-mul-values-3 c = omega arith
-
-add-values-2 : tie.Need-add-values-2 Inv-loop μ-loop
-add-values-2 c = omega arith
-
-mul-values-4 : tie.Need-mul-values-4 Inv-loop μ-loop
-mul-values-4 c = omega arith
-
-array-set-from-values-4 : tie.Need-array-set-from-values-4 Inv-loop μ-loop
-array-set-from-values-4 c = omega arith
+lay-pair-requires : tie.Need-lay-pair-requires Inv-loop μ-loop
+lay-pair-requires c κs = c .before .before .loop-test .taken
 
 add-i : tie.Need-add-i Inv-loop μ-loop
 add-i c = omega arith
@@ -75,13 +54,11 @@ loop-again c =
     let turn = c .before .before .before in
     let loop = turn .before .loop in
     let s = turn .before .before .before .before in
-    let g = c .before .struct-told3 .given in
     let inside : loop .i < length (s .args .t1 .pairs) = omega (arith, long s, turn .loop-test .taken) in
     let room : 3 + 2 * loop .i < length (loop .values) = omega (arith, loop .inv .1, turn .loop-test .taken) in (
       omega (arith, turn .loop-test .taken),
-      simp length-set (loop .inv .1),
-      rw (toZ-ofZ (sfits-of (g .0 .1)), toZ-ofZ (sfits-of (g .1 .0 .1)))
-          (loop .inv .2 ∙ values-more (s .args .t1 .pairs) (loop .values) (loop .i) inside room),
+      rw (c .lay-pair .ensures) (simp length-set (loop .inv .1)),
+      rw (c .lay-pair .ensures) (loop .inv .2 ∙ values-more (s .args .t1 .pairs) (loop .values) (loop .i) inside room),
     )
 
 returns : tie.Need-returns Inv-loop μ-loop
@@ -103,16 +80,9 @@ values-of-spec =
     array-set-from-values
     array-set-from-values-2
     loop-holds
-    mul-pair
-    element-copy-out-pair
-    mul-values
-    add-values
-    mul-values-2
-    array-set-from-values-3
-    mul-values-3
-    add-values-2
-    mul-values-4
-    array-set-from-values-4
+    mul-lay-pair
+    element-copy-out-lay-pair
+    lay-pair-requires
     add-i
     loop-less
     loop-again
