@@ -1,15 +1,15 @@
--- Laws of digits: one byte on and at the end, their value, and digits with no leading zero.
-use Prim.Native.Nat.{ℕ, suc, _+_, _-_, _*_, _≤_, _<_}
+-- Laws of digits: a byte that is no digit, a digit in front, and digits with no leading zero.
+use Prim.Native.Nat.{ℕ, suc, _+_, _≤_, _<_}
 use native.Mathlib.Numerals.{add-one}
 use native.Mathlib.Omega.{arith}
 use mathlib.Core.Bool.{Bool, true, false, not, _&&_}
 use mathlib.Core.List.{List, [], _∷_}
 use mathlib.Core.Path.{_≡_, refl, sym, _∙_}
 use lib.Dec.{eqb, leb, eqb·suc-zero}
-use lib.ListN.{length, drop, getD, drop-of-length-le, length-drop}
+use lib.ListN.{length, drop, getD, length-drop}
 use lib.Seq.{drop-cons}
 use borrow.Author.Tests.{le-leb, lt-leb, leb-true, eq-eqb, ne-eqb, eqb-true, eqb-false}
-use Rattle.number.specs.Number.{isDigit, allDigits, valueOf, plain}
+use Rattle.number.specs.Number.{isDigit, allDigits, plain}
 
 and-true : (t : Bool) → t ≡ (t && true)
 and-true true = refl
@@ -27,10 +27,6 @@ same-test a b c d there back = go (eqb a b) refl
     go false e = sym (ne-eqb c d (λ q. eqb-false a b e (back q)))
 
 module _ (s : List ℕ) (i : ℕ) where
-  pub digits-over : length s ≤ i → allDigits (drop i s) ≡ true
-  unfolding allDigits
-  digits-over h = rw (drop-of-length-le s {i = i} h)
-
   pub digits-low : i < length s → getD s i 0 < 48 → allDigits (drop i s) ≡ false
   unfolding allDigits
   digits-low h l = rw (drop-cons s i 0 h, lt-leb 48 (getD s i 0) l)
@@ -38,10 +34,6 @@ module _ (s : List ℕ) (i : ℕ) where
   pub digits-high : i < length s → 48 ≤ getD s i 0 → 57 < getD s i 0 → allDigits (drop i s) ≡ false
   unfolding allDigits
   digits-high h l u = rw (drop-cons s i 0 h, le-leb 48 (getD s i 0) l, lt-leb (getD s i 0) 57 u)
-
-  pub digits-on : i < length s → 48 ≤ getD s i 0 → getD s i 0 ≤ 57 → allDigits (drop i s) ≡ allDigits (drop (i + 1) s)
-  unfolding allDigits
-  digits-on h l u = rw (add-one, drop-cons s i 0 h, le-leb 48 (getD s i 0) l, le-leb (getD s i 0) 57 u)
 
   -- a digit stands first where all are digits
   pub digit-first : i < length s → allDigits (drop i s) ≡ true → ((48 ≤ getD s i 0) × (getD s i 0 ≤ 57)) × (allDigits (drop (i + 1) s) ≡ true)
@@ -53,20 +45,6 @@ module _ (s : List ℕ) (i : ℕ) where
 
       digit : (leb 48 (getD s i 0) ≡ true) × (leb (getD s i 0) 57 ≡ true)
       digit = both-true _ _ (parts .0)
-
-  pub value-over : (front : ℕ) → length s ≤ i → valueOf front (drop i s) ≡ front
-  unfolding valueOf
-  value-over front h = rw (drop-of-length-le s {i = i} h)
-
-  pub value-on : (front : ℕ) → i < length s → valueOf front (drop i s) ≡ valueOf (front * 10 + (getD s i 0 - 48)) (drop (i + 1) s)
-  unfolding valueOf
-  value-on front h = rw (add-one, drop-cons s i 0 h)
-
--- more digits never make a value less
-pub value-grows : (front : ℕ) (s : List ℕ) → front ≤ valueOf front s
-unfolding valueOf
-value-grows front [] = omega arith
-value-grows front (byte ∷ s) = omega (arith, value-grows (front * 10 + (byte - 48)) s)
 
 zero-plain : (byte : ℕ) (rest : List ℕ) → byte ≡ 48 → plain (byte ∷ rest) ≡ eqb (length rest) 0
 zero-plain byte [] e = rw e
@@ -91,9 +69,6 @@ plain-digits (byte ∷ []) p = rw p
 plain-digits (byte ∷ (next ∷ rest)) p = both-true (not (eqb byte 48)) (allDigits (byte ∷ (next ∷ rest))) p .1
 
 module _ (s : List ℕ) (i : ℕ) where
-  pub plain-over : length s ≤ i → plain (drop i s) ≡ false
-  plain-over h = rw (drop-of-length-le s {i = i} h)
-
   -- a leading zero stands alone
   pub plain-zero : i < length s → getD s i 0 ≡ 48 → plain (drop i s) ≡ eqb (i + 1) (length s)
   plain-zero h e =

@@ -89,7 +89,7 @@ fn number_in(value: &[u8], low: i64, high: i64) -> Number
         return Number::Malformed;
     }
     if value[0] == 45 {
-        return negative_in(&value[1..], low, high);
+        return negative_in(part(value, 1, value.len()), low, high);
     }
     natural_in(value, low, high)
 }

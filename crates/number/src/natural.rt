@@ -10,7 +10,6 @@ ghost use Rattle.piece.specs.Piece.{part};
 ghost use Rattle.number.specs.Number.{allDigits, numberOf};
 ghost use Rattle.number.specs.Digits.{DigitsRead, NaturalRead};
 use line::begins_with;
-use piece::part;
 
 // A natural number and how many bytes it takes; none where it takes no bytes.
 pub(crate) struct Natural {
@@ -18,6 +17,7 @@ pub(crate) struct Natural {
     pub length: usize,
 }
 
+// No natural number.
 const NONE: Natural = Natural {
     value: 0,
     length: 0,

@@ -13,14 +13,8 @@ returns c = let a = c .before .before .args in number-empty (a .low) (a .high) (
 shared-slice-read-if2 : tie.Need-shared-slice-read-if2
 shared-slice-read-if2 c = omega (arith, c .before .if1 .left)
 
-sub-negative-in : tie.Need-sub-negative-in
-sub-negative-in c = omega (arith, c .before .before .if1 .left)
-
-part-negative-in-start : tie.Need-part-negative-in-start
-part-negative-in-start c = omega (arith, c .before .before .if1 .left)
-
-part-negative-in-end : tie.Need-part-negative-in-end
-part-negative-in-end c = omega arith
+part-requires : tie.Need-part-requires
+part-requires c κs = tt
 
 negative-in-requires : tie.Need-negative-in-requires
 negative-in-requires c κs = tt
@@ -29,7 +23,7 @@ returns-2 : tie.Need-returns-2
 returns-2 c =
     let s = c .before .before .before .before .before .before in
     c .negative-in .ensures
-    ∙ rw (toZ-ofZ (s .fits .low), toZ-ofZ (s .fits .high), part-whole (s .args .value .now) 1, numberOf-minus (s .args .value .now) (c .before .before .if2 .taken))
+    ∙ rw (toZ-ofZ (s .fits .low), toZ-ofZ (s .fits .high), c .before .part .ensures, part-whole (s .args .value .now) 1, numberOf-minus (s .args .value .now) (c .before .before .if2 .taken))
 
 natural-in-requires : tie.Need-natural-in-requires
 natural-in-requires c κs = omega (arith, c .before .before .if1 .left)
@@ -46,9 +40,7 @@ number-in-spec =
     (tie.spec
     returns
     shared-slice-read-if2
-    sub-negative-in
-    part-negative-in-start
-    part-negative-in-end
+    part-requires
     negative-in-requires
     returns-2
     natural-in-requires
