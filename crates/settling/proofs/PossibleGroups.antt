@@ -2,7 +2,7 @@
 use mathlib.Core.Path.{_≡_, refl, sym, _∙_}
 use mathlib.Core.Bool.{Bool, true, false, _&&_, _||_, or-true}
 use mathlib.Core.List.{List, [], _∷_}
-use Prim.Native.Nat.{ℕ, zero, suc, _+_, _-_, _*_, _≤_, _<_}
+use Prim.Native.Nat.{ℕ, zero, suc, _+_, _*_, _≤_, _<_}
 use native.Mathlib.Numerals.{add-one}
 use native.Mathlib.Omega.{arith}
 use borrow.Author.Tests.{leb-true, le-leb, eqb-true, eqb-false}
@@ -11,8 +11,6 @@ use lib.IntN.{ℤ, pos, natAbs, _+ℤ_}
 use lib.ListN.{length, getD, drop, drop-of-length-le}
 use lib.Seq.{drop-cons}
 use lib.Signed.{leZ, _≤ℤ_}
-use mir.Syntax.{w64}
-use mir.Val.{Fits}
 use Rattle.integer.specs.Floor.{floorDiv}
 use Rattle.quadratic.specs.Quadratic.{quadratic}
 use Rattle.range.specs.Range.{within}
@@ -129,27 +127,3 @@ possible-step groups i h = rw (add-one, drop-cons groups i noHours)
 pub possible-end : (groups : List Group) (i : ℕ) → length groups ≤ i → allPossible (drop i groups) ≡ true
 unfolding allPossible
 possible-end groups i h = rw (drop-of-length-le groups h)
-
--- ---- a turn of a loop over the groups of a record
-
-module _ {i : ℕ} (more : i < 24) where
-  pub group-byte : Fits w64 (i * 24)
-  group-byte = omega arith
-
-  pub pair-byte : Fits w64 (i * 16)
-  pair-byte = omega arith
-
-  pub one-more : Fits w64 (i + 1)
-  one-more = omega arith
-
-  pub passed : i + 1 ≤ 24
-  passed = omega arith
-
-  pub fewer-left : 24 - (i + 1) < 24 - i
-  fewer-left = omega arith
-
-  pub turn-within : {long : ℕ} → long ≡ 24 → i < long
-  turn-within h = omega arith
-
-pub turns-over : {i long : ℕ} → 24 ≤ i → long ≡ 24 → long ≤ i
-turns-over over h = omega arith

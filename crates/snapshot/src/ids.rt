@@ -39,26 +39,26 @@ fn same_bytes(id: &[u8], other: &[u8]) -> bool
     true
 }
 
-// Whether an id stands among the first n ones of a table: `link` leads to the latest of its bucket, and each one's own link to the one before.
+// Whether an id stands among the first n ones of a table: `latest` leads to the latest one of its bucket, and its own link to the one before it.
 fn stands_above(
     text: &[u8],
     links: &[u16],
     places: &[usize],
     n: usize,
     id: &[u8],
-    link: u16,
+    latest: u16,
 ) -> bool
-    requires { ⌜ IdTable (now text) (now links) (now places) n ⌝ ∗ ⌜ link ≡ getD (now links) (bucketOf (now id)) 0 ⌝ }
+    requires { ⌜ IdTable (now text) (now links) (now places) n ⌝ ∗ ⌜ latest ≡ getD (now links) (bucketOf (now id)) 0 ⌝ }
     ensures { λ r. ⌜ r ≡ standsIn (now (id .entry)) (idsAbove (now (text .entry)) (now (places .entry)) n) ⌝ }
 {
-    let mut later = link as usize;
-    while 0 < later {
-        let k = later - 1;
+    let mut link = latest as usize;
+    while 0 < link {
+        let k = link - 1;
         let place = 2 * k;
         if same_bytes(id, part(text, places[place], places[place + 1])) {
             return true;
         }
-        later = links[4096 + k] as usize;
+        link = links[4096 + k] as usize;
     }
     false
 }
@@ -85,11 +85,11 @@ pub(crate) fn new_id(
     };
     let id = part(text, start, end);
     let bucket = bucket_of(id);
-    let link = links[bucket];
-    if stands_above(text, links, places, n, id, link) {
+    let latest = links[bucket];
+    if stands_above(text, links, places, n, id, latest) {
         return Line::Refused(Fault { number: 8, at });
     }
-    links[4096 + n] = link;
+    links[4096 + n] = latest;
     links[bucket] = (n + 1) as u16;
     let place = 2 * n;
     places[place] = start;

@@ -17,7 +17,8 @@ use Rattle.curve_set.specs.declared.Pair.{Pair}
 use Rattle.curve_set.specs.Answer.{refusal}
 use Rattle.record.specs.Record.{noHours}
 use Rattle.settling.specs.Settle.{spreadOf, pairOf, settledGroups}
-use Rattle.settling.proofs.PossibleGroups.{possible-at, group-byte, pair-byte, one-more, passed, fewer-left, turn-within, turns-over}
+use Rattle.settling.proofs.PossibleGroups.{possible-at}
+use Rattle.settling.proofs.Turns.{group-byte, pair-byte, one-more, passed, fewer-left, turn-within, turns-over}
 use Rattle.settling.proofs.settle_groups.Statement.{statement}
 use Rattle.settling.proofs.settle_groups.Tie as tie
 

@@ -1,12 +1,13 @@
 use mathlib.Core.Path.{_≡_, refl, sym, _∙_}
 use mathlib.Core.Bool.{_&&_}
-use Prim.Native.Nat.{_+_, _≤_, _<_, _-_}
+use Prim.Native.Nat.{_+_, _≤_, _-_}
 use native.Mathlib.Omega.{arith}
 use borrow.Author.Tests.{not-true, not-false}
 use lib.ListN.{length, getD, drop, length-map}
 use Rattle.record.specs.Record.{noHours}
 use Rattle.settling.specs.Possible.{possible, allPossible}
-use Rattle.settling.proofs.PossibleGroups.{possible-step, possible-end, group-byte, one-more, passed, fewer-left, turn-within, turns-over}
+use Rattle.settling.proofs.PossibleGroups.{possible-step, possible-end}
+use Rattle.settling.proofs.Turns.{group-byte, one-more, passed, fewer-left, turn-within, turns-over}
 use Rattle.settling.proofs.possible.all_possible.Statement.{statement}
 use Rattle.settling.proofs.possible.all_possible.Tie as tie
 

@@ -13,7 +13,7 @@ use Rattle.integer.specs.Floor.{floorDiv}
 use Rattle.integer.proofs.Bounds.{abs-add, abs-fits}
 use Rattle.integer.proofs.Floor.{floor-bound}
 use Rattle.record.specs.declared.Group.{Group}
-use Rattle.settling.specs.Possible.{SmallGroup, possible, meanOf, squaresAround}
+use Rattle.settling.specs.Possible.{SmallGroup, possible, meanOf}
 use Rattle.settling.proofs.PossibleGroups.{tests, bounded, few-possible, bounded-small}
 use Rattle.settling.proofs.possible.is_possible.Statement.{statement}
 use Rattle.settling.proofs.possible.is_possible.Tie as tie

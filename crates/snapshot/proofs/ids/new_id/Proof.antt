@@ -78,8 +78,8 @@ module _ {n : ℕ} (h : n < 4096) where
   end-byte : Fits w64 ((2 * n + 1) * 8)
   end-byte = omega arith
 
-mul-link : tie.Need-mul-link
-mul-link c = twice (below c)
+mul-latest : tie.Need-mul-latest
+mul-latest c = twice (below c)
 
 -- an element is changed
 in-set : (l : List ℕ) (i x : ℕ) {k : ℕ} → k < length l → k < length (set l i x)
@@ -88,8 +88,8 @@ in-set l i x h = rw (length-set l i x) h
 in-links : {bucket long : ℕ} (n : ℕ) → bucket < 4096 → 4096 + n ≤ long → bucket < long
 in-links n h l = omega arith
 
-slice-read-link : tie.Need-slice-read-link
-slice-read-link c = in-links (begun (c .before) .args .n) (below (c .before)) (begun (c .before) .pre .0 .links-room)
+slice-read-latest : tie.Need-slice-read-latest
+slice-read-latest c = in-links (begun (c .before) .args .n) (below (c .before)) (begun (c .before) .pre .0 .links-room)
 
 -- where the bucket is known, seen from where it is known whether the id stands above
 abbrev found : tie.After-stands-above → tie.After-bucket-of
@@ -210,8 +210,8 @@ new-id-spec =
     returns
     part-requires
     bucket-of-requires
-    mul-link
-    slice-read-link
+    mul-latest
+    slice-read-latest
     stands-above-requires
     same-length
     same-length-2

@@ -1,9 +1,6 @@
-use Prim.Native.Nat.{ℕ, _+_, _*_, _-_, _≤_, _<_}
-use mathlib.Core.Path.{_≡_, refl, sym, ap, _∙_}
+use Prim.Native.Nat.{_+_, _-_}
+use mathlib.Core.Path.{_≡_, sym, ap, _∙_}
 use native.Mathlib.Omega.{arith}
-use lib.ListN.{getD}
-use mir.Syntax.{w64}
-use mir.Val.{Fits}
 use Rattle.snapshot.specs.Snapshot.{sameBytes}
 use Rattle.snapshot.specs.Ids.{IdTable, idOf}
 use Rattle.snapshot.proofs.Buckets.{NoneFrom, none-start, none-more, none-less, none-found, none-over}
@@ -11,10 +8,10 @@ use Rattle.snapshot.proofs.ids.stands_above.Statement.{statement}
 use Rattle.snapshot.proofs.ids.stands_above.Tie as tie
 
 abbrev Inv-loop : tie.InvT-loop
-Inv-loop text links places n id link later₀ later = IdTable text links places n × NoneFrom text places id n later
+Inv-loop text links places n id latest link₀ link = IdTable text links places n × NoneFrom text places id n link
 
 abbrev μ-loop : tie.MeasureT-loop
-μ-loop text links places n id link later₀ later = later
+μ-loop text links places n id latest link₀ link = link
 
 loop-holds : tie.Need-loop-holds Inv-loop μ-loop
 loop-holds c =
@@ -56,7 +53,7 @@ abbrev begun : tie.In-loop Inv-loop μ-loop → tie.Start Inv-loop μ-loop
 begun c = c .before .before .before .before .before .before
 
 tested : (c : tie.After-same-bytes Inv-loop μ-loop) → let a = begun (turn c) .args in
-    c .same-bytes .result ≡ sameBytes (a .id .now) (idOf (a .text .now) (a .places .now) (turn c .before .loop .later - 1))
+    c .same-bytes .result ≡ sameBytes (a .id .now) (idOf (a .text .now) (a .places .now) (turn c .before .loop .link - 1))
 tested c = c .same-bytes .ensures ∙ ap (sameBytes (begun (turn c) .args .id .now)) (c .before .part .ensures)
 
 returns : tie.Need-returns Inv-loop μ-loop
@@ -65,17 +62,17 @@ returns c =
     let inv = at .before .loop .inv in
     none-found (inv .0) (begun at .args .id .now) (inv .1) (at .loop-test .taken) (sym (tested (c .before)) ∙ c .if1 .taken)
 
-add-later : tie.Need-add-later Inv-loop μ-loop
-add-later c = omega arith
+add-link : tie.Need-add-link Inv-loop μ-loop
+add-link c = omega arith
 
-mul-later : tie.Need-mul-later Inv-loop μ-loop
-mul-later c = omega arith
+mul-link : tie.Need-mul-link Inv-loop μ-loop
+mul-link c = omega arith
 
-shared-slice-read-later : tie.Need-shared-slice-read-later Inv-loop μ-loop
-shared-slice-read-later c = omega arith
+shared-slice-read-link : tie.Need-shared-slice-read-link Inv-loop μ-loop
+shared-slice-read-link c = omega arith
 
-cast-later : tie.Need-cast-later Inv-loop μ-loop
-cast-later c = omega (arith, c .shared-slice-known7 .given (4096 + (turn (c .before .before) .before .loop .later - 1)))
+cast-link : tie.Need-cast-link Inv-loop μ-loop
+cast-link c = omega (arith, c .shared-slice-known7 .given (4096 + (turn (c .before .before) .before .loop .link - 1)))
 
 loop-less : tie.Need-loop-less Inv-loop μ-loop
 loop-less c =
@@ -111,10 +108,10 @@ stands-above-spec =
     part-requires
     same-bytes-requires
     returns
-    add-later
-    mul-later
-    shared-slice-read-later
-    cast-later
+    add-link
+    mul-link
+    shared-slice-read-link
+    cast-link
     loop-less
     loop-again
     returns-2)
