@@ -13,7 +13,7 @@ use Rattle.integer.specs.Floor.{floorDiv}
 use Rattle.integer.proofs.Bounds.{abs-add, abs-fits}
 use Rattle.integer.proofs.Floor.{floor-bound}
 use Rattle.record.specs.declared.Group.{Group}
-use Rattle.settling.specs.Possible.{SmallGroup, possible, meanOf}
+use Rattle.settling.specs.Possible.{SmallGroup, notNegative, possible, meanOf}
 use Rattle.settling.proofs.PossibleGroups.{tests, bounded, few-possible, bounded-small}
 use Rattle.settling.proofs.possible.is_possible.Statement.{statement}
 use Rattle.settling.proofs.possible.is_possible.Tie as tie
@@ -141,18 +141,12 @@ left-tests c =
 returns-4 : tie.Need-returns-4
 returns-4 c =
     let found = c .before .before in
-    let here : SFits w64 (c .before .squares-around .result) = sfits-of (c .before .squares-around .ok) in
-    let next : SFits w64 (c .squares-around2 .result) = sfits-of (c .squares-around2 .ok) in
-    rw (
-      left-tests (found .before .before),
-      toZ-ofZ here,
-      toZ-ofZ next,
-      c .before .squares-around .ensures,
-      c .squares-around2 .ensures,
-      toZ-ofZ (mean-fits found),
-      toZ-ofZ (next-fits (found .floor-div .result) (mean-bound found)),
-      mean-is found,
-    )
+    let mean = found .floor-div .result in
+    let here-fits : SFits w64 (c .before .squares-around .result) = sfits-of (c .before .squares-around .ok) in
+    let next-fit : SFits w64 (c .squares-around2 .result) = sfits-of (c .squares-around2 .ok) in
+    let here = rw (toZ-ofZ (mean-fits found), mean-is found) at (c .before .squares-around .ensures) in
+    let next = rw (toZ-ofZ (mean-fits found), toZ-ofZ (next-fits mean (mean-bound found)), mean-is found) at (c .squares-around2 .ensures) in
+    ap₂ (λ (x y : ℤ). notNegative x && notNegative y) (toZ-ofZ here-fits ∙ here) (toZ-ofZ next-fit ∙ next) ∙ sym (left-tests (found .before .before))
 
 pub is-possible-spec : {M : Type 1} → statement M
 is-possible-spec =
