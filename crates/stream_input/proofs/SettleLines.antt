@@ -8,11 +8,10 @@ use Rattle.text.specs.declared.refusal.Fault.{Fault}
 use Rattle.line.specs.Field.{refused}
 use Rattle.stream.specs.Program.{vollField, floorField}
 use Rattle.stream.specs.Stream.{State, vollTaken, floorTaken, refusedSettle}
-use Rattle.stream.specs.declared.Stage.the-variants as stage
-use Rattle.stream.proofs.OneByte.{LineStage, voll-line, floor-line}
+use Rattle.stream_input.specs.Waiting.{stageAt}
+use Rattle.stream_input.proofs.OneByte.{LineStage, voll-line, floor-line}
 
-pub waits : (line : ℕ) → (1 ≤ line) × (line ≤ 2) →
-    LineStage (pick (eqb line 1) stage.Voll stage.Floor) (pick (eqb line 1) vollTaken floorTaken) (pick (eqb line 1) vollField floorField) line
+pub waits : (line : ℕ) → (1 ≤ line) × (line ≤ 2) → LineStage (stageAt line) (pick (eqb line 1) vollTaken floorTaken) (pick (eqb line 1) vollField floorField) line
 waits zero h = absurd (omega arith)
 waits (suc zero) h = voll-line
 waits (suc (suc zero)) h = floor-line

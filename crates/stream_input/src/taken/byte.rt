@@ -1,11 +1,12 @@
-// One byte of the input taken.
+// The bytes of a line or an hour, up to the last one.
 ghost use mathlib.Core.List.{_∷_, []};
+ghost use mathlib.Core.Bool.{true};
 ghost use mathlib.Core.Path.{_≡_};
 ghost use Prim.Native.Nat.{_≤_};
-ghost use lib.Dec.{eqb};
-ghost use Rattle.text.specs.Choice.{pick};
+ghost use lib.ListN.{length, take};
 ghost use Rattle.stream.specs.Program.{endsHour};
 ghost use Rattle.stream.specs.Stream.{Ready, Fed};
+ghost use Rattle.stream_input.specs.Waiting.{lineOf, stageAt, stopsAt};
 use crate::taken::hour_taken;
 use crate::taken::hour_too_long;
 use crate::taken::line_refused;
@@ -19,24 +20,51 @@ pub mod feed;
 // How many bytes a line or an hour may have, which the buffer has room for.
 const MOST_BYTES: usize = 65536;
 
-// Whether a byte is an empty line after some bytes of an hour: a line starts there, and the byte ends it.
-fn ends_hour(hour: &[u8], byte: u8) -> bool
-    ensures { λ r. ⌜ r ≡ endsHour (now (hour .entry)) byte ⌝ }
+// The line that a stage waits for: the first is `voll`, the second `floor`; 0 for an hour.
+fn line_of(stage: Stage) -> usize
+    ensures { λ r. ⌜ r ≡ lineOf stage ⌝ }
+{
+    match stage {
+        Stage::Voll => 1,
+        Stage::Floor => 2,
+        Stage::Hours => 0,
+        Stage::RefusedHour(_) => 0,
+        Stage::RefusedSettle(_) => 0,
+    }
+}
+
+// Whether a byte is an empty line after the bytes held of an hour: a line starts there, and the byte ends it.
+fn ends_hour(buffer: &[u8; 65536], held: usize, byte: u8) -> bool
+    requires { ⌜ (length (now buffer) ≡ 65536) × (held ≤ 65536) ⌝ }
+    ensures { λ r. ⌜ r ≡ endsHour (take held (now (buffer .entry))) byte ⌝ }
 {
     if byte != 10 {
         return false;
     }
-    if hour.len() == 0 {
+    if held == 0 {
         return true;
     }
-    hour[hour.len() - 1] == 10
+    buffer[held - 1] == 10
 }
 
-// A byte of the `voll` line, the first, or of the `floor` line, the second.
-fn line_byte(mut stream: Stream, buffer: &mut [u8], byte: u8, line: usize) -> Stream
-    requires { ⌜ Ready stream (now buffer) ⌝ }
-    requires { ⌜ (1 ≤ line) × (line ≤ 2) ⌝ }
-    requires { ⌜ stream .stage ≡ pick (eqb line 1) Stage.Voll Stage.Floor ⌝ }
+// Whether a byte is the last one of a line or an hour, or finds no room.
+fn stops(line: usize, buffer: &[u8; 65536], held: usize, byte: u8) -> bool
+    requires { ⌜ (length (now buffer) ≡ 65536) × (held ≤ 65536) ⌝ }
+    ensures { λ r. ⌜ r ≡ stopsAt line held (now (buffer .entry)) byte ⌝ }
+{
+    if held == MOST_BYTES {
+        return true;
+    }
+    if line != 0 {
+        return byte == 10;
+    }
+    ends_hour(buffer, held, byte)
+}
+
+// The last byte of a line, or one that finds no room.
+fn line_end(stream: Stream, buffer: &mut [u8; 65536], byte: u8, line: usize) -> Stream
+    requires { ⌜ Ready stream (now buffer) × ((stream .held ≡ 65536 → ⊥) → byte ≡ 10) ⌝ }
+    requires { ⌜ (1 ≤ line) × (line ≤ 2) × (stream .stage ≡ stageAt line) ⌝ }
     ensures { λ r. ⌜ Fed stream (now (buffer .entry)) (byte ∷ []) r (now (buffer .exit)) ⌝ }
 {
     let held = stream.held;
@@ -44,43 +72,21 @@ fn line_byte(mut stream: Stream, buffer: &mut [u8], byte: u8, line: usize) -> St
         return line_refused(stream, 3, line);
     }
     buffer[held] = byte;
-    if byte != 10 {
-        stream.held = held + 1;
-        return stream;
-    }
     line_taken(stream, part(buffer, 0, held + 1), line)
 }
 
-// A byte of an hour.
-fn hour_byte(mut stream: Stream, buffer: &mut [u8], byte: u8) -> Stream
-    requires { ⌜ Ready stream (now buffer) ⌝ }
-    requires { ⌜ stream .stage ≡ Stage.Hours ⌝ }
+// The last byte of a line or an hour, or one that finds no room.
+fn end_byte(stream: Stream, buffer: &mut [u8; 65536], byte: u8, line: usize) -> Stream
+    requires { ⌜ Ready stream (now buffer) × (stopsAt line (stream .held) (now buffer) byte ≡ true) ⌝ }
+    requires { ⌜ (line ≤ 2) × (stream .stage ≡ stageAt line) ⌝ }
     ensures { λ r. ⌜ Fed stream (now (buffer .entry)) (byte ∷ []) r (now (buffer .exit)) ⌝ }
 {
+    if line != 0 {
+        return line_end(stream, buffer, byte, line);
+    }
     let held = stream.held;
-    let hour = part(buffer, 0, held);
-    if ends_hour(hour, byte) {
-        return hour_taken(stream, hour);
+    if ends_hour(buffer, held, byte) {
+        return hour_taken(stream, part(buffer, 0, held));
     }
-    if held == MOST_BYTES {
-        return hour_too_long(stream);
-    }
-    buffer[held] = byte;
-    stream.held = held + 1;
-    stream
-}
-
-// One byte of the input.
-fn feed_byte(stream: Stream, buffer: &mut [u8], byte: u8) -> Stream
-    requires { ⌜ Ready stream (now buffer) ⌝ }
-    ensures { λ r. ⌜ Fed stream (now (buffer .entry)) (byte ∷ []) r (now (buffer .exit)) ⌝ }
-{
-    let stage = stream.stage;
-    match stage {
-        Stage::Voll => return line_byte(stream, buffer, byte, 1),
-        Stage::Floor => return line_byte(stream, buffer, byte, 2),
-        Stage::Hours => return hour_byte(stream, buffer, byte),
-        Stage::RefusedHour(_) => return stream,
-        Stage::RefusedSettle(_) => return stream,
-    }
+    hour_too_long(stream)
 }

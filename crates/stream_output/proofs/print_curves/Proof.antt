@@ -3,7 +3,7 @@ use mir.Facts.{toZ-ofZ}
 use lib.ListN.{length, length-map}
 use Rattle.curve_set.specs.declared.Curves.{Curves}
 use Rattle.settling.specs.Settle.{settled}
-use Rattle.stream.proofs.Printing.{curves-printed, never-refused}
+use Rattle.stream_output.proofs.Printing.{curves-printed, never-refused}
 use borrow.Author.Needs.{needs}
 use Rattle.stream_output.proofs.print_curves.Statement.{statement}
 use Rattle.stream_output.proofs.print_curves.Tie as tie

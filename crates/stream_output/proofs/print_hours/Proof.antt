@@ -3,7 +3,7 @@ use mathlib.Core.Logic.{⊎-elim}
 use mir.Syntax.{w64}
 use mir.Val.{toZ, ofZ}
 use Rattle.stream.specs.Program.{hoursBooked}
-use Rattle.stream.proofs.Printing.{no-hour, one-hour}
+use Rattle.stream_output.proofs.Printing.{no-hour, one-hour}
 use borrow.Author.Needs.{needs}
 use Rattle.stream_output.proofs.print_hours.Statement.{statement}
 use Rattle.stream_output.proofs.print_hours.Tie as tie

@@ -4,7 +4,7 @@ use mathlib.Core.List.{List}
 use lib.ListN.{length}
 use Rattle.text.specs.declared.refusal.Refusal.{Refusal}
 use Rattle.writer.specs.Output.{refusalLines}
-use Rattle.stream.proofs.Printing.{refusal-short, text-printed, never-short}
+use Rattle.stream_output.proofs.Printing.{refusal-short, text-printed, never-short}
 use native.Mathlib.Omega.{arith}
 use borrow.Author.Needs.{needs}
 use Rattle.stream_output.proofs.print_lines.Statement.{statement}

@@ -1,57 +1,62 @@
-use mathlib.Core.Path.{refl, sym, _∙_}
-use native.Mathlib.Nat.{le-refl}
-use lib.ListN.{length, drop}
-use lib.Seq.{drop-length}
-use Rattle.stream.specs.Stream.{stateOf}
-use Rattle.stream.proofs.Feeding.{further-none, further-refused}
-use borrow.Author.Needs.{needs}
+use Prim.Native.Nat.{_-_}
+use mathlib.Core.Path.{sym, _∙_}
+use lib.ListN.{length}
+use Rattle.stream_input.proofs.Feeding.{Storing, room-left, storing-none, storing-on, stored}
+use native.Mathlib.Omega.{arith}
 use Rattle.stream_input.proofs.taken.byte.feed.store.Statement.{statement}
 use Rattle.stream_input.proofs.taken.byte.feed.store.Tie as tie
 
-is-refused-requires : tie.Need-is-refused-requires
-is-refused-requires c κs = tt
+abbrev Inv-loop : tie.InvT-loop
+Inv-loop line held₀ buffer₀ input from next₀ held buffer next = Storing line buffer₀ input from held₀ buffer held next
 
-returns : tie.Need-returns
-returns c =
-    let s = c .before .before .before .before in
-    record {
-      room = s .pre .0 .room;
-      within = s .pre .0 .within;
-      on = s .pre .1;
-      inside = le-refl (length (s .args .input .now));
-      further =
-          rw (drop-length (s .args .input .now))
-          (further-refused (stateOf (s .args .stream) (s .args .buffer .now)) (s .args .buffer .now) (drop (s .args .from) (s .args .input .now))
-          (sym (c .before .is-refused .ensures) ∙ c .if1 .taken));
-    }
+abbrev μ-loop : tie.MeasureT-loop
+μ-loop line held₀ buffer₀ input from next₀ held buffer next = length input - next
 
-enum-told : tie.Need-enum-told
-enum-told c = c .match .keys1
+loop-holds : tie.Need-loop-holds Inv-loop μ-loop
+loop-holds c = let s = c .before in storing-none (s .args .line) (s .args .buffer .now) (s .args .input .now) (s .args .from) (s .args .held) (s .pre .0) (s .pre .1) (s .pre .2)
 
-returns-2 : tie.Need-returns-2
-returns-2 c =
-    let s = c .before .before .before .before .before in
-    record { room = s .pre .0 .room; within = s .pre .0 .within; on = le-refl (s .args .from); inside = s .pre .1; further = further-none }
+shared-slice-read-byte : tie.Need-shared-slice-read-byte Inv-loop μ-loop
+shared-slice-read-byte c = omega arith
 
-store-hour-requires : tie.Need-store-hour-requires
-store-hour-requires c κs = let s = c .before .before .before .before .before .before .before in ((s .pre .0 .room, s .pre .0 .within), s .pre .1)
+stops-requires : tie.Need-stops-requires Inv-loop μ-loop
+stops-requires c κs = let l = c .before .before .before in (l .loop .inv .room, l .loop .inv .within)
 
-same-length : tie.Need-same-length
-same-length c = search needs
+returns : tie.Need-returns Inv-loop μ-loop
+returns c = let l = c .before .before .before .before .before in (stored (l .loop .inv), λ inside. sym (c .before .stops .ensures) ∙ c .if1 .taken)
 
-returns-3 : tie.Need-returns-3
-returns-3 c =
-    let h = c .before .before in
-    h .store-hour .ensures (h .before .before .before .before .before .before .before .before .args .stream) (h .before .before .enum-told .given .1) refl
+element-write-buffer : tie.Need-element-write-buffer Inv-loop μ-loop
+element-write-buffer c =
+    let l = c .before .before .before .before .before in
+    room-left (l .before .before .args .line) (l .loop .held) (l .loop .buffer) _ (l .loop .inv .within) (sym (c .before .stops .ensures) ∙ c .if1 .left)
+
+add-held : tie.Need-add-held Inv-loop μ-loop
+add-held c = omega (arith, c .before .before .before .before .before .loop .inv .within)
+
+add-next : tie.Need-add-next Inv-loop μ-loop
+add-next c = omega arith
+
+loop-less : tie.Need-loop-less Inv-loop μ-loop
+loop-less c = omega arith
+
+loop-again : tie.Need-loop-again Inv-loop μ-loop
+loop-again c = let l = c .before .before .before .before .before in storing-on (l .loop .inv) (omega arith) (sym (c .before .stops .ensures) ∙ c .if1 .left)
+
+returns-2 : tie.Need-returns-2 Inv-loop μ-loop
+returns-2 c = let l = c .before in (stored (l .loop .inv), λ inside. absurd (omega arith))
 
 pub store-spec : {M : Type 1} → statement M
 store-spec =
     tie.close
     (tie.spec
-    is-refused-requires
+    Inv-loop
+    μ-loop
+    loop-holds
+    shared-slice-read-byte
+    stops-requires
     returns
-    enum-told
-    returns-2
-    store-hour-requires
-    same-length
-    returns-3)
+    element-write-buffer
+    add-held
+    add-next
+    loop-less
+    loop-again
+    returns-2)

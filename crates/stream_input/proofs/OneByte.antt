@@ -101,12 +101,6 @@ module _ (stream : Stream) (buffer : List ℕ) (byte : ℕ) where
           count = rw (is, goes, length-append, held-length);
           bytes = sym sets;
         }
-
-    -- nothing is taken after a refusal
-    pub refused-byte : fed (stateOf stream buffer) byte ≡ stateOf stream buffer → bufferFed (stateOf stream buffer) buffer byte ≡ buffer →
-        Fed stream buffer (byte ∷ []) stream buffer
-    unfolding fedAll bufferFedAll
-    refused-byte goes sets = record { state = rw goes; count = rw (goes, held-length); bytes = sym sets }
 
     module _ {at : Stage} {taken : State → Answer ℤ → State} {field : Field ℤ} {line : ℕ} (waits : LineStage at taken field line) (here : stream .stage ≡ at) where
       pub line-full : (r : Stream) → stream .held ≡ 65536 → r ≡ streamOf (refusedSettle (stateOf stream []) 3 line) → Fed stream buffer (byte ∷ []) r buffer

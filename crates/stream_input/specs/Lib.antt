@@ -1,0 +1,2 @@
+-- What a stream that is not refused waits for.
+pub mod Waiting
