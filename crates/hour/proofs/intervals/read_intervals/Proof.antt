@@ -23,10 +23,10 @@ run-at-requires : tie.Need-run-at-requires Inv-loop μ-loop
 run-at-requires c κs = tt
 
 enum-known-r : tie.Need-enum-known-r Inv-loop μ-loop
-enum-known-r c = omega arith
+enum-known-r c = c .match .keys1
 
 enum-told : tie.Need-enum-told Inv-loop μ-loop
-enum-told c = omega arith
+enum-told c = c .match .keys2
 
 returns : tie.Need-returns Inv-loop μ-loop
 returns c =

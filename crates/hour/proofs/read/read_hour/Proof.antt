@@ -25,10 +25,10 @@ read-block-requires : tie.Need-read-block-requires
 read-block-requires c κs = tt
 
 enum-known-b : tie.Need-enum-known-b
-enum-known-b c = omega arith
+enum-known-b c = c .match .keys1
 
 enum-told : tie.Need-enum-told
-enum-told c = omega arith
+enum-told c = c .match .keys2
 
 block-fault-requires : tie.Need-block-fault-requires
 block-fault-requires c κs = tt

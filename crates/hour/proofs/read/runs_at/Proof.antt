@@ -22,10 +22,10 @@ read-intervals-requires : tie.Need-read-intervals-requires
 read-intervals-requires c κs = omega (arith, c .before .magnitude-at .ensures, c .before .before .before .pre .3)
 
 enum-known-i : tie.Need-enum-known-i
-enum-known-i c = omega arith
+enum-known-i c = c .match .keys1
 
 enum-told : tie.Need-enum-told
-enum-told c = omega arith
+enum-told c = c .match .keys2
 
 interval-fault-requires : tie.Need-interval-fault-requires
 interval-fault-requires c κs =
@@ -58,10 +58,10 @@ end-at-requires : tie.Need-end-at-requires
 end-at-requires c κs = tt
 
 enum-told-2 : tie.Need-enum-told-2
-enum-told-2 c = omega arith
+enum-told-2 c = c .match2 .keys1
 
 enum-told-3 : tie.Need-enum-told-3
-enum-told-3 c = omega arith
+enum-told-3 c = c .match2 .keys2
 
 block-fault-requires : tie.Need-block-fault-requires
 block-fault-requires c κs = tt
