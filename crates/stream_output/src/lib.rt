@@ -1,15 +1,17 @@
 // The end of the input: what the program prints.
 ghost use mathlib.Core.Path.{_≡_};
 ghost use Prim.Native.Nat.{_≤_};
+ghost use lib.IntN.{ℤ};
 ghost use lib.ListN.{length};
 ghost use Rattle.writer.specs.Output.{refusalLines};
-ghost use Rattle.stream.specs.Program.{lastHour, settledText, hoursBooked};
+ghost use Rattle.stream.specs.Program.{lastHour, afterHour, settledText, hoursBooked};
 ghost use Rattle.stream.specs.Stream.{State, stateOf, finished, Printed};
 ghost use Rattle.text.specs.Bytes.{bytes};
 ghost use Rattle.text.specs.Choice.{pick};
 use curve::WrittenCurves;
 use curve::write_curves;
 use curve_set::answer::Answer;
+use history::Booking;
 use history::book;
 use piece::part;
 use record::Record;
@@ -69,21 +71,32 @@ fn print_curves(history: Record, voll: i64, floor: i64, out: &mut [u8]) -> usize
     }
 }
 
-// The last hour booked, where it has a byte, then the curves.
+// The record with the last hour booked, where that has a byte.
+fn last_booked(history: Record, hour: &[u8]) -> Booking
+    ensures { λ r. ⌜ ((voll floor : ℤ) → hoursBooked voll floor history (lastHour (now (hour .entry))) ≡ afterHour (r .history) (r .answer) (settledText voll floor)) ⌝ }
+{
+    if hour.len() == 0 {
+        return Booking {
+            history,
+            answer: Answer::Accepted,
+        };
+    }
+    book(history, hour)
+}
+
+// The last hour booked, then the curves.
 fn print_hours(stream: Stream, hour: &[u8], out: &mut [u8]) -> usize
     requires { ⌜ length (now out) ≡ 768 ⌝ }
     ensures { λ r. ⌜ Printed (hoursBooked (stream .voll) (stream .floor) (stream .history) (lastHour (now (hour .entry)))) (now (out .entry)) (now (out .exit)) r ⌝ }
 {
-    let mut history = stream.history;
-    if hour.len() != 0 {
-        let booking = book(history, hour);
-        let answer = booking.answer;
-        match answer {
-            Answer::Refused(found) => return print_refusal(found, true, out),
-            Answer::Accepted => history = booking.history,
+    let booking = last_booked(stream.history, hour);
+    let answer = booking.answer;
+    match answer {
+        Answer::Refused(found) => return print_refusal(found, true, out),
+        Answer::Accepted => {
+            return print_curves(booking.history, stream.voll, stream.floor, out);
         }
     }
-    print_curves(history, stream.voll, stream.floor, out)
 }
 
 // What is refused at a stage other than `Hours`: a line that is missing, or what was refused before.

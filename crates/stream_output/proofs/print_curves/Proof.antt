@@ -33,7 +33,7 @@ enum-told : tie.Need-enum-told
 enum-told c = c .match .keys2
 
 write-curves-requires : tie.Need-write-curves-requires
-write-curves-requires c κs = search needs
+write-curves-requires c κs = tt
 
 enum-known-w : tie.Need-enum-known-w
 enum-known-w c = c .match2 .keys1

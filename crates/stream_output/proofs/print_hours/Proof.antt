@@ -1,9 +1,6 @@
-use mathlib.Core.Path.{_≡_, sym}
-use mathlib.Core.Logic.{⊎-elim}
+use mathlib.Core.Path.{_≡_}
 use mir.Syntax.{w64}
 use mir.Val.{toZ, ofZ}
-use Rattle.stream.specs.Program.{hoursBooked}
-use Rattle.stream_output.proofs.Printing.{no-hour, one-hour}
 use borrow.Author.Needs.{needs}
 use Rattle.stream_output.proofs.print_hours.Statement.{statement}
 use Rattle.stream_output.proofs.print_hours.Tie as tie
@@ -15,8 +12,8 @@ voll-bits c = search needs
 floor-bits : (c : tie.Start) → toZ w64 (ofZ w64 (c .args .stream .floor)) ≡ c .args .stream .floor
 floor-bits c = search needs
 
-book-requires : tie.Need-book-requires
-book-requires c κs = tt
+last-booked-requires : tie.Need-last-booked-requires
+last-booked-requires c κs = tt
 
 enum-known-answer : tie.Need-enum-known-answer
 enum-known-answer c = c .match .keys1
@@ -28,11 +25,10 @@ same-length : tie.Need-same-length
 same-length c = search needs
 
 returns : tie.Need-returns
-unfolding hoursBooked
 returns c =
     let k = c .before .before .before .before .before .before .before in
-    let s = c .before .before .before .before .before .before .before .before .before .before .before .before in
-    rw (one-hour (s .args .hour .now) (k .before .if1 .taken), sym (k .book .ensures), c .before .before .before .before .before .answer .given .1) (c .before .before .print-refusal .ensures)
+    let s = c .before .before .before .before .before .before .before .before .before .before in
+    rw (k .last-booked .ensures (s .args .stream .voll) (s .args .stream .floor), c .before .before .before .before .before .answer .given .1) (c .before .before .print-refusal .ensures)
 
 enum-told : tie.Need-enum-told
 enum-told c = c .match .keys2
@@ -44,19 +40,16 @@ same-length-2 : tie.Need-same-length-2
 same-length-2 c = search needs
 
 returns-2 : tie.Need-returns-2
-unfolding hoursBooked
 returns-2 c =
-    let s = c .before .before .before .before .before .before .before .before .before .before in
-    let printed = rw (voll-bits s, floor-bits s) at (c .before .before .print-curves .ensures) in
-    ⊎-elim
-    (λ w. rw (one-hour (s .args .hour .now) (w .0 .taken), sym (w .1 .ensures), w .3 .given .1) (rw (w .5) at printed))
-    (λ w. rw (no-hour (s .args .hour .now) (w .0 .left)) (rw (w .1) at printed)) (c .before .before .before .before .before .before .if1 .came)
+    let s = c .before .before .before .before .before .before .before .before .before .before .before in
+    let k = c .before .before .before .before .before .before .before .before in
+    rw (k .last-booked .ensures (s .args .stream .voll) (s .args .stream .floor), c .before .before .before .before .before .before .enum-told .given .1) (rw (voll-bits s, floor-bits s) at (c .before .before .print-curves .ensures))
 
 pub print-hours-spec : {M : Type 1} → statement M
 print-hours-spec =
     tie.close
     (tie.spec
-    book-requires
+    last-booked-requires
     enum-known-answer
     print-refusal-requires
     same-length
