@@ -58,22 +58,18 @@ pub(crate) fn id_case(text: &[u8], key: &[u8]) {
     }
 }
 
-// The values, each after its mark: `=`, then commas.
-fn show_values(values: &[i64]) {
-    show(b"values");
-    let mut mark = b'=';
-    let mut i: usize = 0;
-    while i < values.len() {
-        show_byte(mark);
-        show_number(values[i]);
-        mark = b',';
-        i += 1;
-    }
+fn show_values(values: &[i64; 3]) {
+    show(b"values=");
+    show_number(values[0]);
+    show_byte(b',');
+    show_number(values[1]);
+    show_byte(b',');
+    show_number(values[2]);
 }
 
 // The values are shown where the block was read and the text ends with it. No refusal has the number 0: `block_fault` gives it, with the position
 // where reading goes on, for what was read.
-fn show_block(text: &[u8], read: Fault, values: &[i64]) {
+fn show_block(text: &[u8], read: Fault, values: &[i64; 3]) {
     if read.number != 0 {
         show_fault(text, read);
         return;

@@ -1,4 +1,4 @@
-// Cases held in one byte string, run one after the other. A case is a letter that says what it is read as, then the text, then the mark `|`,
+// Cases held in one text, run one after the other. A case is a letter that says what it is read as, then the text, then the mark `|`,
 // which no text contains. Bytes after the last mark are no case.
 use crate::case::block_case;
 use crate::case::id_case;
