@@ -13,22 +13,18 @@ use ordc::curve_text::write::ordc_write_curves;
 use ordc::price::ordc_price;
 use ordc::refusal::Refusal;
 
-// Each number of a record that did not stay as it was.
-fn show_changes(before: &[i64; 72], after: &[i64; 72]) {
+// A refused booking has to leave the record as it was: each number that changed is shown after the refusal, where nothing is due.
+fn show_booking(refusal: Refusal, before: &[i64; 72], after: &[i64; 72]) {
+    show_answer(refusal, after);
+    if refusal.number == 0 {
+        return;
+    }
     let mut i: usize = 0;
     while i < 72 {
         if before[i] != after[i] {
             show_number(after[i]);
         }
         i += 1;
-    }
-}
-
-// A refused booking has to leave the record as it was: what changed is shown after the refusal, where nothing is due.
-fn show_booking(refusal: Refusal, before: &[i64; 72], after: &[i64; 72]) {
-    show_answer(refusal, after);
-    if refusal.number != 0 {
-        show_changes(before, after);
     }
 }
 

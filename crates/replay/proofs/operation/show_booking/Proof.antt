@@ -1,7 +1,7 @@
 use Prim.Native.Nat.{_-_}
 use native.Mathlib.Omega.{arith}
-use Rattle.replay.proofs.operation.show_changes.Statement.{statement}
-use Rattle.replay.proofs.operation.show_changes.Tie as tie
+use Rattle.replay.proofs.operation.show_booking.Statement.{statement}
+use Rattle.replay.proofs.operation.show_booking.Tie as tie
 
 abbrev Inv-loop : tie.InvT-loop
 Inv-loop before after i₀ i = Unit {0}
@@ -9,20 +9,26 @@ Inv-loop before after i₀ i = Unit {0}
 abbrev μ-loop : tie.MeasureT-loop
 μ-loop before after i₀ i = 72 - i
 
+show-answer-requires : tie.Need-show-answer-requires Inv-loop μ-loop
+show-answer-requires c κs = tt
+
+returns : tie.Need-returns Inv-loop μ-loop
+returns c = tt
+
 loop-holds : tie.Need-loop-holds Inv-loop μ-loop
 loop-holds c = tt
 
-mul-if1 : tie.Need-mul-if1 Inv-loop μ-loop
-mul-if1 c = omega arith
+mul-if2 : tie.Need-mul-if2 Inv-loop μ-loop
+mul-if2 c = omega arith
 
-element-copy-out-if1 : tie.Need-element-copy-out-if1 Inv-loop μ-loop
-element-copy-out-if1 c = omega arith
+element-copy-out-if2 : tie.Need-element-copy-out-if2 Inv-loop μ-loop
+element-copy-out-if2 c = omega arith
 
-mul-if1-2 : tie.Need-mul-if1-2 Inv-loop μ-loop
-mul-if1-2 c = omega arith
+mul-if2-2 : tie.Need-mul-if2-2 Inv-loop μ-loop
+mul-if2-2 c = omega arith
 
-element-copy-out-if1-2 : tie.Need-element-copy-out-if1-2 Inv-loop μ-loop
-element-copy-out-if1-2 c = omega arith
+element-copy-out-if2-2 : tie.Need-element-copy-out-if2-2 Inv-loop μ-loop
+element-copy-out-if2-2 c = omega arith
 
 mul-show-number : tie.Need-mul-show-number Inv-loop μ-loop
 mul-show-number c = omega arith
@@ -42,24 +48,26 @@ loop-less c = omega arith
 loop-again : tie.Need-loop-again Inv-loop μ-loop
 loop-again c = tt
 
-returns : tie.Need-returns Inv-loop μ-loop
-returns c = tt
+returns-2 : tie.Need-returns-2 Inv-loop μ-loop
+returns-2 c = tt
 
-pub show-changes-spec : {M : Type 1} → statement M
-show-changes-spec =
+pub show-booking-spec : {M : Type 1} → statement M
+show-booking-spec =
     tie.close
     (tie.spec
     Inv-loop
     μ-loop
+    show-answer-requires
+    returns
     loop-holds
-    mul-if1
-    element-copy-out-if1
-    mul-if1-2
-    element-copy-out-if1-2
+    mul-if2
+    element-copy-out-if2
+    mul-if2-2
+    element-copy-out-if2-2
     mul-show-number
     element-copy-out-show-number
     show-number-requires
     add-i
     loop-less
     loop-again
-    returns)
+    returns-2)
