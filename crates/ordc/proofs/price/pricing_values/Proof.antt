@@ -1,5 +1,5 @@
 -- The numbers of a pricing are small, so that each fits.
-use borrow.Author.Needs.{needs, sfits-of}
+use borrow.Author.Needs.{sfits-of}
 use native.Mathlib.Omega.{arith}
 use mathlib.Core.Path.{subst}
 use mir.Facts.{toZ-ofZ}
@@ -9,7 +9,7 @@ use Rattle.ordc.proofs.price.pricing_values.Statement.{statement}
 use Rattle.ordc.proofs.price.pricing_values.Tie as tie
 
 enum-known-pricing : tie.Need-enum-known-pricing
-enum-known-pricing c = search needs
+enum-known-pricing c = c .match .keys1
 
 small : (c : tie.After-pricing) → SmallPrices (c .pricing .given .0 .0)
 small c = subst SmallPricing (c .pricing .given .1) (c .before .before .pre)
@@ -27,7 +27,7 @@ cast-t8 : tie.Need-cast-t8
 cast-t8 c = omega (arith, abs-fits, small (c .before .before .before .before .before) .offline)
 
 enum-known-pricing-2 : tie.Need-enum-known-pricing-2
-enum-known-pricing-2 c = search needs
+enum-known-pricing-2 c = c .match .keys2
 
 returns : tie.Need-returns
 returns c =

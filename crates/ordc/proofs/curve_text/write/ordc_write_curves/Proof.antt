@@ -1,5 +1,5 @@
 -- The calls chain to the writing; the length is laid where the number is 0, and the buffer is as the writing leaves it.
-use borrow.Author.Needs.{needs}
+use native.Mathlib.Omega.{arith}
 use mathlib.Core.Path.{_≡_, ap, _∙_}
 use denote.Ref.{now}
 use Rattle.curve_values.specs.CurveValues.{curvesOf}
@@ -41,7 +41,7 @@ found c =
     c .refusal-in .ensures ∙ ap refusalIn (c .before .writing-answer .ensures ∙ ap writingAnswer (written (c .before .before .before .before) .ends))
 
 same-length : tie.Need-same-length
-same-length c = search needs
+same-length c = omega arith
 
 returns : tie.Need-returns
 returns c =
@@ -52,7 +52,7 @@ written-length-requires : tie.Need-written-length-requires
 written-length-requires c κs = tt
 
 same-length-2 : tie.Need-same-length-2
-same-length-2 c = search needs
+same-length-2 c = omega arith
 
 returns-2 : tie.Need-returns-2
 returns-2 c =
