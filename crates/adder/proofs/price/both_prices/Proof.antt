@@ -1,15 +1,14 @@
 use Prim.Native.Nat.{_≤_}
 use mathlib.Core.Path.{_≡_, _∙_}
-use native.Mathlib.Omega.{arith}
 use borrow.Author.Needs.{sfits-of}
 use lib.IntN.{natAbs}
 use mir.Facts.{toZ-ofZ}
 use mir.Syntax.{w64}
 use mir.Val.{toZ, ofZ}
 use Rattle.adder.specs.Reserve.{onlineReserve, totalReserve}
-use Rattle.integer.proofs.Bounds.{abs-fits}
-use Rattle.adder.specs.Price.{valueOfReserve, shortageOnline, shortageOffline, pricesOf}
+use Rattle.adder.specs.Price.{valueOfReserve, shortageOnline, shortageOffline}
 use Rattle.adder.proofs.Bounds.{CurvesBound, PairBound, curves-bound, header-bound, value-bound, shortage-online-bound, shortage-offline-bound}
+use Rattle.adder.proofs.Steps.{narrow-fits, magnitude-fits, sum-fits, sum-bound, one-bound, online-same, offline-same, prices-same}
 use Rattle.adder.proofs.price.both_prices.Statement.{statement}
 use Rattle.adder.proofs.price.both_prices.Tie as tie
 
@@ -27,10 +26,10 @@ mean-read : (c : tie.After-struct-told2) → let m = c .before .before .before .
 mean-read c = toZ-ofZ (sfits-of (c .struct-told2 .given .0 .1))
 
 cast-floor : tie.Need-cast-floor
-cast-floor c = rw (floor-read c) (omega (arith, abs-fits, bound (c .before .before .before) .floor))
+cast-floor c = rw (floor-read c) (narrow-fits (bound (c .before .before .before) .floor))
 
 cast-mean : tie.Need-cast-mean
-cast-mean c = rw (mean-read c) (omega (arith, abs-fits, pair-bound (c .before .before .before .before) .mean))
+cast-mean c = rw (mean-read c) (narrow-fits (pair-bound (c .before .before .before .before) .mean))
 
 spread-is : (c : tie.After-magnitude) → c .magnitude .result ≡ natAbs (c .before .before .before .before .before .before .pair-for .result .spread)
 spread-is c = rw (toZ-ofZ (sfits-of (c .before .struct-told3 .given .1 .0 .1))) at (c .magnitude .ensures)
@@ -39,7 +38,7 @@ magnitude-requires : tie.Need-magnitude-requires
 magnitude-requires c κs = tt
 
 cast-spread : tie.Need-cast-spread
-cast-spread c = omega (arith, spread-is c, pair-bound (c .before .before .before .before .before .before) .spread)
+cast-spread c = rw (spread-is c) (magnitude-fits (pair-bound (c .before .before .before .before .before .before) .spread))
 
 -- what each call gives
 rs-is : (c : tie.After-online-reserve) → let a = c .before .before .before .before .before .before .before .before .args in
@@ -52,23 +51,25 @@ rsns-is c = toZ-ofZ (sfits-of (c .total-reserve .ok)) ∙ c .total-reserve .ensu
 
 pis-is : (c : tie.After-online-probability) → let a = c .before .before .before .before .before .before .before .before .before .before .args in
     c .online-probability .result ≡ shortageOnline (a .curves) (a .header) (a .sums)
-unfolding shortageOnline
 pis-is c =
     let rs = c .before .before in
     let spread = rs .before in
     let mean = spread .before .before in
     let floor = mean .before .before in
-    rw (c .online-probability .ensures, rs-is rs, toZ-ofZ (cast-floor floor) ∙ floor-read floor, toZ-ofZ (cast-mean mean) ∙ mean-read mean, spread-is spread, floor .before .before .pair-for .ensures)
+    let pair = floor .before .before in
+    let a = pair .before .args in
+    online-same (a .curves) (a .header) (a .sums) (c .online-probability .ensures) (rs-is rs) (toZ-ofZ (cast-floor floor) ∙ floor-read floor) (toZ-ofZ (cast-mean mean) ∙ mean-read mean) (spread-is spread) (pair .pair-for .ensures)
 
 pins-is : (c : tie.After-offline-probability) → let a = c .before .before .before .before .before .before .before .before .before .before .before .args in
     c .offline-probability .result ≡ shortageOffline (a .curves) (a .header) (a .sums)
-unfolding shortageOffline
 pins-is c =
     let rsns = c .before .before in
     let spread = rsns .before .before in
     let mean = spread .before .before in
     let floor = mean .before .before in
-    rw (c .offline-probability .ensures, rsns-is rsns, toZ-ofZ (cast-floor floor) ∙ floor-read floor, toZ-ofZ (cast-mean mean) ∙ mean-read mean, spread-is spread, floor .before .before .pair-for .ensures)
+    let pair = floor .before .before in
+    let a = pair .before .args in
+    offline-same (a .curves) (a .header) (a .sums) (c .offline-probability .ensures) (rsns-is rsns) (toZ-ofZ (cast-floor floor) ∙ floor-read floor) (toZ-ofZ (cast-mean mean) ∙ mean-read mean) (spread-is spread) (pair .pair-for .ensures)
 
 pis-bound : (c : tie.After-online-probability) → c .online-probability .result ≤ 1000000000
 pis-bound c = rw (pis-is c) (shortage-online-bound _ _ _)
@@ -111,22 +112,22 @@ value-of-reserve-requires c κs =
     )
 
 add-rounded-share : tie.Need-add-rounded-share
-add-rounded-share c = let pins = c .before .before .before in omega (arith, pis-bound (pins .before), pins-bound pins)
+add-rounded-share c = let pins = c .before .before .before in sum-fits (pis-bound (pins .before)) (pins-bound pins)
 
 rounded-share-requires : tie.Need-rounded-share-requires
-rounded-share-requires c κs = let pins = c .before .before .before in (v-bound c, omega (arith, pis-bound (pins .before), pins-bound pins))
+rounded-share-requires c κs = let pins = c .before .before .before in (v-bound c, sum-bound (pis-bound (pins .before)) (pins-bound pins))
 
 rounded-share-requires-2 : tie.Need-rounded-share-requires-2
-rounded-share-requires-2 c κs = (v-bound (c .before), omega (arith, pins-bound (c .before .before .before .before)))
+rounded-share-requires-2 c κs = (v-bound (c .before), one-bound (pins-bound (c .before .before .before .before)))
 
 returns : tie.Need-returns
-unfolding pricesOf
 returns c =
     let value = c .before .before in
     let pins = value .before .before .before in
     let pis = pins .before in
     let rsns = pis .before in
-    rw (rs-is (rsns .before), rsns-is rsns, c .rounded-share2 .ensures, c .before .rounded-share .ensures, value-is value, pins-is pins, pis-is pis)
+    let a = rsns .before .before .before .before .before .before .before .before .before .args in
+    prices-same (a .curves) (a .header) (a .sums) (rs-is (rsns .before)) (rsns-is rsns) (pis-is pis) (pins-is pins) (value-is value) (c .before .rounded-share .ensures) (c .rounded-share2 .ensures)
 
 pub both-prices-spec : {M : Type 1} → statement M
 both-prices-spec =
