@@ -1,8 +1,7 @@
 // The probability that the reserve falls to the minimum contingency level X, in billionths.
 ghost use mathlib.Core.Path.{_≡_};
-ghost use Prim.Native.Nat.{_-_, _≤_};
+ghost use Prim.Native.Nat.{_≤_};
 ghost use lib.IntN.{pos, natAbs, _-ℤ_, _*ℤ_};
-ghost use Rattle.normal.specs.Normal.{normal};
 ghost use Rattle.probability.specs.Probability.{onlineProbability, offlineProbability};
 use normal::distribution;
 use range::wide;
@@ -26,13 +25,6 @@ fn offline_numerator(reserve: i64, floor: i64, mean: i64) -> i64
     100 * (reserve - floor - mean)
 }
 
-// What N leaves of one.
-fn remaining(numerator: i64, denominator: u64) -> u64
-    ensures { λ r. ⌜ r ≡ 1000000000 - normal numerator denominator ⌝ }
-{
-    1000000000 - distribution(numerator, denominator)
-}
-
 // piS, at a reserve, X, a mean and a spread in kW.
 pub fn online_probability(reserve: i64, floor: i32, mean: i32, spread: u32) -> u64
     ensures { λ r. ⌜ r ≡ onlineProbability reserve floor mean spread ⌝ }
@@ -44,10 +36,8 @@ pub fn online_probability(reserve: i64, floor: i32, mean: i32, spread: u32) -> u
     if FAR < reserve {
         return 0;
     }
-    remaining(
-        online_numerator(reserve, x, wide(mean)),
-        707 * (spread as u64),
-    )
+    let numerator = online_numerator(reserve, x, wide(mean));
+    1000000000 - distribution(numerator, 707 * (spread as u64))
 }
 
 // piNS, at a reserve, X, a mean and a spread in kW.
@@ -61,5 +51,6 @@ pub fn offline_probability(reserve: i64, floor: i32, mean: i32, spread: u32) -> 
     if FAR < reserve {
         return 0;
     }
-    remaining(offline_numerator(reserve, x, wide(mean)), spread as u64)
+    let numerator = offline_numerator(reserve, x, wide(mean));
+    1000000000 - distribution(numerator, spread as u64)
 }

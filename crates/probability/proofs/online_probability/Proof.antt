@@ -7,6 +7,7 @@ use lib.Signed.{_<ℤ_}
 use mir.Facts.{toZ-ofZ, sfits-lit}
 use Rattle.integer.proofs.Bounds.{fits-abs}
 use Rattle.integer.proofs.Signed.{less-taken, less-left, at-most-taken, at-most-left}
+use Rattle.normal.proofs.Order.{normal-le}
 use Rattle.probability.proofs.ProbabilityOrder.{online-low, online-high, online-far, near}
 use Rattle.probability.proofs.online_probability.Statement.{statement}
 use Rattle.probability.proofs.online_probability.Tie as tie
@@ -52,11 +53,14 @@ online-numerator-requires c κs =
     rw (toZ-ofZ (s .fits .reserve), toZ-ofZ (sfits-of (c .before .before .before .wide .ok)), toZ-ofZ (sfits-of (c .wide2 .ok)))
     (near (s .args .reserve) (s .args .floor) (high (c .before .before)) below small, c .before .before .before .wide .ensures .1, c .wide2 .ensures .1)
 
-mul-remaining : tie.Need-mul-remaining
-mul-remaining c = omega (arith, c .before .before .before .before .before .fits .spread)
+mul-distribution : tie.Need-mul-distribution
+mul-distribution c = omega (arith, c .before .before .before .before .before .fits .spread)
 
-remaining-requires : tie.Need-remaining-requires
-remaining-requires c κs = tt
+distribution-requires : tie.Need-distribution-requires
+distribution-requires c κs = tt
+
+sub-result : tie.Need-sub-result
+sub-result c = rw (c .distribution .ensures) (normal-le _ _)
 
 returns-3 : tie.Need-returns-3
 returns-3 c =
@@ -64,7 +68,7 @@ returns-3 c =
     let w = n .before .before .before in
     let s = w .before in
     rw (
-      c .remaining .ensures,
+      c .distribution .ensures,
       toZ-ofZ (sfits-of (c .before .online-numerator .ok)),
       c .before .online-numerator .ensures,
       toZ-ofZ (s .fits .reserve),
@@ -85,6 +89,7 @@ online-probability-spec =
     returns-2
     wide-requires-2
     online-numerator-requires
-    mul-remaining
-    remaining-requires
+    mul-distribution
+    distribution-requires
+    sub-result
     returns-3)
