@@ -30,10 +30,11 @@ pub fn begins_with(text: &[u8], key: &[u8]) -> bool
         if text.len() <= i {
             return false;
         }
-        if text[i] == 10 {
+        let byte = text[i];
+        if byte == 10 {
             return false;
         }
-        if text[i] != key[i] {
+        if byte != key[i] {
             return false;
         }
         i += 1;

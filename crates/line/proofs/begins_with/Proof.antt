@@ -21,8 +21,8 @@ loop-holds c = (omega arith, refl)
 returns : tie.Need-returns Inv-loop μ-loop
 returns c = let a = c .before .before .before .args in sym (begins-short (a .key .now) (a .text .now) (c .before .before .loop .i) (c .before .loop-test .taken) (c .if1 .taken)) ∙ c .before .before .loop .inv .1
 
-shared-slice-read-if2 : tie.Need-shared-slice-read-if2 Inv-loop μ-loop
-shared-slice-read-if2 c = omega arith
+shared-slice-read-byte : tie.Need-shared-slice-read-byte Inv-loop μ-loop
+shared-slice-read-byte c = omega arith
 
 returns-2 : tie.Need-returns-2 Inv-loop μ-loop
 returns-2 c = let l = c .before .before .before in sym (begins-ended (l .before .before .args .key .now) (l .before .before .args .text .now) (l .before .loop .i) (l .loop-test .taken) (c .before .before .if1 .left) (c .if2 .taken)) ∙ l .before .loop .inv .1
@@ -30,11 +30,8 @@ returns-2 c = let l = c .before .before .before in sym (begins-ended (l .before 
 shared-slice-read-if3 : tie.Need-shared-slice-read-if3 Inv-loop μ-loop
 shared-slice-read-if3 c = omega arith
 
-shared-slice-read-if3-2 : tie.Need-shared-slice-read-if3-2 Inv-loop μ-loop
-shared-slice-read-if3-2 c = omega arith
-
 returns-3 : tie.Need-returns-3 Inv-loop μ-loop
-returns-3 c = let e = c .before .before .before in let l = e .before .before .before in sym (begins-other (l .before .before .args .key .now) (l .before .before .args .text .now) (l .before .loop .i) (l .loop-test .taken) (e .before .before .if1 .left) (e .if2 .left) (c .if3 .taken)) ∙ l .before .loop .inv .1
+returns-3 c = let e = c .before .before in let l = e .before .before .before in sym (begins-other (l .before .before .args .key .now) (l .before .before .args .text .now) (l .before .loop .i) (l .loop-test .taken) (e .before .before .if1 .left) (e .if2 .left) (c .if3 .taken)) ∙ l .before .loop .inv .1
 
 add-i : tie.Need-add-i Inv-loop μ-loop
 add-i c = omega arith
@@ -43,7 +40,7 @@ loop-less : tie.Need-loop-less Inv-loop μ-loop
 loop-less c = omega arith
 
 loop-again : tie.Need-loop-again Inv-loop μ-loop
-loop-again c = let e = c .before .before .before in let l = e .before .before .before in (omega arith, sym (begins-same (l .before .before .args .key .now) (l .before .before .args .text .now) (l .before .loop .i) (l .loop-test .taken) (e .before .before .if1 .left) (e .if2 .left) (c .if3 .left)) ∙ l .before .loop .inv .1)
+loop-again c = let e = c .before .before in let l = e .before .before .before in (omega arith, sym (begins-same (l .before .before .args .key .now) (l .before .before .args .text .now) (l .before .loop .i) (l .loop-test .taken) (e .before .before .if1 .left) (e .if2 .left) (c .if3 .left)) ∙ l .before .loop .inv .1)
 
 returns-4 : tie.Need-returns-4 Inv-loop μ-loop
 returns-4 c = let a = c .before .before .args in sym (begins-over (a .key .now) (a .text .now) (c .before .loop .i) (c .loop-test .left)) ∙ c .before .loop .inv .1
@@ -56,10 +53,9 @@ begins-with-spec =
     μ-loop
     loop-holds
     returns
-    shared-slice-read-if2
+    shared-slice-read-byte
     returns-2
     shared-slice-read-if3
-    shared-slice-read-if3-2
     returns-3
     add-i
     loop-less
