@@ -1,5 +1,5 @@
 // What the readers of a text answer, and the fault that an answer carries: each answer is taken apart by `let .. else`, and the fault of a refused one is
-// handed on.
+// handed on. An answer that is no refusal has the number 0, which is no fault, and the position where reading goes on.
 ghost use mathlib.Core.Path.{_≡_};
 ghost use Rattle.answers.specs.Answers.{lineFault, numberFault, wordFault, blockFault, endAt};
 use text::refusal::Fault;
