@@ -4,6 +4,7 @@
 #   make examples                the examples in C, Rust and Python
 #   make tests                   the tests of the bindings in Rust and Python
 #   make damaged                 damaged texts handed to every function, under valgrind
+#   make programs                both programs beside the second implementation, and the memory of `curves`
 #   make bench                   the library beside the second implementation (a report, not a test)
 PREFIX ?= /usr/local
 DESTDIR ?=
@@ -14,7 +15,7 @@ VERSION := 1.0.0
 BUILD := $(CURDIR)/target/staticlib
 WARNINGS := -std=c11 -Wall -Wextra -Werror
 
-.PHONY: lib shared install examples c-example rust-example python-example tests damaged bench
+.PHONY: lib shared install examples c-example rust-example python-example tests damaged programs bench
 
 lib:
 	rt staticlib ordc
@@ -52,6 +53,11 @@ damaged:
 	$(CC) $(WARNINGS) -g $(CFLAGS) -Iinclude bindings/c/damaged.c $(BUILD)/libordc.a -o $(BUILD)/damaged
 	valgrind --quiet --error-exitcode=9 --leak-check=full $(BUILD)/example
 	valgrind --quiet --error-exitcode=9 --leak-check=full $(BUILD)/damaged
+
+programs:
+	rt check curves price
+	cd reference && cargo build --offline --release --quiet --target-dir target
+	$(PYTHON) tests/programs.py target/bin reference/target/release/reference
 
 bench:
 	cd bench && ORDC_LIB_DIR=$(BUILD) cargo run --offline --release --quiet

@@ -27,7 +27,7 @@ const LARGEST_ERROR: i64 = 20_000_000;
 const HOUR_LIMIT: usize = 65_536;
 
 /// The lines of an hour with these numbers; the runs are counted.
-fn hour_lines(head: [i64; 12], runs: &[[i64; 9]]) -> Lines {
+pub fn hour_lines(head: [i64; 12], runs: &[[i64; 9]]) -> Lines {
     let head = head.into_iter().chain([runs.len() as i64]);
     let mut lines: Lines = HEAD
         .iter()
@@ -54,7 +54,7 @@ fn plain_hour(runs: usize) -> Lines {
 }
 
 /// An hour in the group of month 7 and hour 14 with this error.
-fn hour_with_error(error: i64) -> Lines {
+pub fn hour_with_error(error: i64) -> Lines {
     let tie = (-error).clamp(-LARGEST_ERROR, LARGEST_ERROR);
     let rest = error + tie;
     let (ns, load) = (rest.max(0), (-rest).max(0));

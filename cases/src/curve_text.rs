@@ -15,7 +15,7 @@ pub fn add(cases: &mut Vec<Case>, random: &mut Random) {
     random_sets(cases, random);
 }
 
-fn curve_lines(curves: &CurveSet) -> Lines {
+pub fn curve_lines(curves: &CurveSet) -> Lines {
     let mut lines = vec![
         format!("voll={}", curves.voll),
         format!("floor={}", curves.floor),

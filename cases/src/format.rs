@@ -9,6 +9,8 @@ const SETTLE: i64 = 1;
 const READ: i64 = 2;
 const WRITE: i64 = 3;
 const PRICE: i64 = 4;
+const PRICE_PROGRAM: i64 = 5;
+const CURVES_PROGRAM: i64 = 6;
 
 /// Equal bytes at the end of a text that are written down once.
 const LONG_RUN: usize = 24;
@@ -61,6 +63,11 @@ impl Writer {
             Input::Price { curves, text } => {
                 self.text(text.bytes(), PRICE);
                 self.numbers(&curve_numbers(curves));
+            }
+            Input::PriceProgram { text } => self.text(text.bytes(), PRICE_PROGRAM),
+            Input::CurvesProgram { text, first } => {
+                self.text(text.bytes(), CURVES_PROGRAM);
+                self.numbers(&[*first as i64]);
             }
         }
     }
@@ -153,6 +160,11 @@ impl<'a> Reader<'a> {
             PRICE => Input::Price {
                 curves: self.curves()?,
                 text,
+            },
+            PRICE_PROGRAM => Input::PriceProgram { text },
+            CURVES_PROGRAM => Input::CurvesProgram {
+                text,
+                first: self.number()? as usize,
             },
             _ => return None,
         })

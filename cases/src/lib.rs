@@ -6,6 +6,7 @@ mod book;
 mod curve_text;
 mod format;
 mod price;
+mod programs;
 mod settle;
 mod texts;
 
@@ -13,7 +14,8 @@ pub use format::{decode, encode};
 pub use random::Random;
 
 use reference::{
-    book, price_snapshot, read_curves, settle, write_curves, CurveSet, Record, Refusal,
+    book, price_snapshot, read_curves, run_curves, run_price, settle, write_curves, CurveSet,
+    Record, Refusal,
 };
 use std::collections::BTreeMap;
 
@@ -81,6 +83,16 @@ pub enum Input {
         curves: CurveSet,
         text: Text,
     },
+    /// The program `price` on an input.
+    PriceProgram {
+        text: Text,
+    },
+    /// The program `curves` on an input in two parts, of which the first has so
+    /// many bytes.
+    CurvesProgram {
+        text: Text,
+        first: usize,
+    },
 }
 
 impl Input {
@@ -91,6 +103,8 @@ impl Input {
             Input::Read { .. } => 'R',
             Input::Write { .. } => 'W',
             Input::Price { .. } => 'P',
+            Input::PriceProgram { .. } => 'p',
+            Input::CurvesProgram { .. } => 'c',
         }
     }
 }
@@ -108,6 +122,8 @@ pub enum Answer {
     Accepted(Vec<i64>),
     /// With the buffer's checksum, where a buffer was lent.
     Refused(Refusal, Option<i64>),
+    /// The lines that a program prints.
+    Printed(String),
 }
 
 impl Answer {
@@ -123,6 +139,22 @@ impl Answer {
             }
             Answer::Refused(Refusal { number, line }, Some(checksum)) => {
                 format!("refused {number} line {line} buffer {checksum}")
+            }
+            Answer::Printed(lines) => lines.replace('\n', " "),
+        }
+    }
+
+    /// The number of the refusal, 0 where the input is accepted.
+    pub fn number(&self) -> u32 {
+        match self {
+            Answer::Accepted(_) => 0,
+            Answer::Refused(refusal, _) => refusal.number,
+            Answer::Printed(lines) => {
+                let number = lines
+                    .lines()
+                    .next()
+                    .and_then(|line| line.strip_prefix("refused="));
+                number.map_or(0, |number| number.parse().expect("a refusal has a number"))
             }
         }
     }
@@ -194,7 +226,13 @@ pub fn answer(input: &Input) -> Answer {
             ]),
             Err(refusal) => refused(refusal),
         },
+        Input::PriceProgram { text } => printed(run_price(&text.bytes())),
+        Input::CurvesProgram { text, .. } => printed(run_curves(&text.bytes())),
     }
+}
+
+fn printed(output: Vec<u8>) -> Answer {
+    Answer::Printed(String::from_utf8(output).expect("a program prints ASCII alone"))
 }
 
 /// All cases that follow from the seed.
@@ -205,16 +243,19 @@ pub fn all_cases(seed: u64) -> Vec<Case> {
     settle::add(&mut cases, &mut random);
     curve_text::add(&mut cases, &mut random);
     price::add(&mut cases, &mut random);
+    programs::add(&mut cases, &mut random);
     cases
 }
 
 /// The refusal numbers that each operation can give.
-pub const CAN_REFUSE: [(char, &[u32]); 5] = [
+pub const CAN_REFUSE: [(char, &[u32]); 7] = [
     ('B', &[1, 2, 3, 4, 5, 6, 7, 9, 10, 11]),
     ('S', &[1, 7, 12, 13]),
     ('R', &[2, 3, 4, 5, 6, 7, 9]),
     ('W', &[1, 14]),
     ('P', &[1, 2, 3, 4, 5, 6, 7, 8, 9]),
+    ('p', &[2, 3, 4, 5, 6, 7, 8, 9]),
+    ('c', &[2, 3, 4, 5, 6, 7, 9, 10, 11, 12, 13]),
 ];
 
 /// How often each answer came: by operation and refusal number, 0 standing
@@ -224,11 +265,8 @@ pub fn tally<'a>(
 ) -> BTreeMap<(char, u32), usize> {
     let mut tally = BTreeMap::new();
     for (case, answer) in answers {
-        let number = match answer {
-            Answer::Accepted(_) => 0,
-            Answer::Refused(refusal, _) => refusal.number,
-        };
-        *tally.entry((case.input.letter(), number)).or_insert(0) += 1;
+        let answer = (case.input.letter(), answer.number());
+        *tally.entry(answer).or_insert(0) += 1;
     }
     tally
 }

@@ -31,7 +31,7 @@ pub fn add(cases: &mut Vec<Case>, random: &mut Random) {
 
 /// A header; the fields that a case is not about are out of its way.
 #[derive(Clone, Copy)]
-struct Header {
+pub struct Header {
     month: i64,
     hour: i64,
     lambda: i64,
@@ -41,7 +41,7 @@ struct Header {
     short: i64,
 }
 
-const HEADER: Header = Header {
+pub const HEADER: Header = Header {
     month: 7,
     hour: 14,
     lambda: 0,
@@ -51,7 +51,7 @@ const HEADER: Header = Header {
     short: 0,
 };
 
-fn snapshot(header: &Header, resources: &[String]) -> Lines {
+pub fn snapshot(header: &Header, resources: &[String]) -> Lines {
     let Header {
         month,
         hour,
@@ -72,7 +72,7 @@ fn snapshot(header: &Header, resources: &[String]) -> Lines {
     lines
 }
 
-fn generator(id: &str, kind: &str, status: &str, numbers: [i64; 6]) -> String {
+pub fn generator(id: &str, kind: &str, status: &str, numbers: [i64; 6]) -> String {
     let [net, lsl, hsl, base, nonspin, cold30] = numbers;
     format!(
         "id={id} kind={kind} status={status} net={net} lsl={lsl} hsl={hsl} base={base} \
@@ -84,7 +84,7 @@ fn clr(id: &str, base: i64, lpc: i64, nonspin: i64, regup: i64) -> String {
     format!("id={id} kind=clr base={base} lpc={lpc} nonspin={nonspin} regup={regup}")
 }
 
-fn nclr(id: &str, rrsok: i64, net: i64, lpc: i64, rrs: i64) -> String {
+pub fn nclr(id: &str, rrsok: i64, net: i64, lpc: i64, rrs: i64) -> String {
     format!("id={id} kind=nclr rrsok={rrsok} net={net} lpc={lpc} rrs={rrs}")
 }
 
@@ -120,7 +120,8 @@ fn of(curves: CurveSet, header: &Header, resources: &[String]) -> Input {
     priced(curves, bytes(&snapshot(header, resources)))
 }
 
-fn worked_example(cases: &mut Vec<Case>) {
+/// The snapshot of the worked example.
+pub fn example() -> Lines {
     let header = Header {
         lambda: 2500,
         prc: 3_000_000,
@@ -137,7 +138,11 @@ fn worked_example(cases: &mut Vec<Case>) {
         generator("B", "gen", "ON", [95_000, 100_000, 1_000_000, 93_000, 0, 0]),
         generator("C", "gen", "OFFNS", [0, 0, 293_000, 0, 0, 0]),
     ];
-    let lines = snapshot(&header, &units);
+    snapshot(&header, &units)
+}
+
+fn worked_example(cases: &mut Vec<Case>) {
+    let lines = example();
     cases.case("the worked example", priced(curves(), bytes(&lines)));
     for (at, value) in [
         (5, "2300000"),

@@ -13,7 +13,11 @@ fn answers(cases: &[Case]) -> Vec<Answer> {
 /// The input with its text as one piece.
 fn in_one_piece(input: &Input) -> Input {
     let mut input = input.clone();
-    if let Input::Book { text, .. } | Input::Read { text } | Input::Price { text, .. } = &mut input
+    if let Input::Book { text, .. }
+    | Input::Read { text }
+    | Input::Price { text, .. }
+    | Input::PriceProgram { text }
+    | Input::CurvesProgram { text, .. } = &mut input
     {
         *text = Text::from(text.bytes());
     }
@@ -39,10 +43,13 @@ fn there_are_enough_cases_and_they_are_small() {
     let cases = all_cases(1);
     assert!(cases.len() >= 2000);
     let answers: usize = answers(&cases).iter().map(|one| one.line().len() + 1).sum();
-    assert!(encode(&cases).len() + answers < 4_000_000);
+    assert!(encode(&cases).len() + answers < 5_000_000);
     for case in &cases {
-        if let Input::Book { text, .. } | Input::Read { text } | Input::Price { text, .. } =
-            &case.input
+        if let Input::Book { text, .. }
+        | Input::Read { text }
+        | Input::Price { text, .. }
+        | Input::PriceProgram { text }
+        | Input::CurvesProgram { text, .. } = &case.input
         {
             assert!(text.bytes().len() <= 1_048_577, "{}", case.label);
         }
@@ -72,7 +79,7 @@ fn refusals_come_at_the_first_a_middle_and_the_last_line() {
             Answer::Refused(Refusal { number, line }, _) => {
                 Some((case.input.letter(), number, line))
             }
-            Answer::Accepted(_) => None,
+            Answer::Accepted(_) | Answer::Printed(_) => None,
         })
         .collect();
     for number in 3..=7 {
@@ -126,6 +133,15 @@ fn known_answers() {
         line("the worked example, line 14 made \"\""),
         "refused 5 line 14"
     );
+    assert_eq!(
+        line("price: the worked example"),
+        "rs=2707000 rsns=3000000 pis=158655254 pins=158655254 online=142393 offline=71197 "
+    );
+    assert_eq!(
+        line("price: the worked example, line 14 made \"\""),
+        "refused=5 line=14 text=snapshot "
+    );
+    assert_eq!(line("curves: no hours"), "refused=12 line=0 text=settle ");
     assert_eq!(line("errors [-1, 0] in every group"), "refused 13 line 0");
     assert_eq!(line("4096 load resources").split(' ').nth(1), Some("4096"));
     assert_eq!(

@@ -1,4 +1,4 @@
-// The five operations, each on the text and on the numbers that follow in the file, and what is written of their answers.
+// The operations, each on the text and on the numbers that follow in the file, and what is written of their answers.
 use crate::input::read_count;
 use crate::input::read_number;
 use crate::input::read_numbers;
@@ -12,6 +12,11 @@ use ordc::curve_text::ordc_read_curves;
 use ordc::curve_text::write::ordc_write_curves;
 use ordc::price::ordc_price;
 use ordc::refusal::Refusal;
+use piece::part;
+use price_text::price_text;
+use stream_input::feed;
+use stream_output::finish;
+use writer::Written;
 
 // A refused booking has to leave the record as it was: each number that changed is shown after the refusal, where nothing is due.
 fn show_booking(refusal: Refusal, before: &[i64; 72], after: &[i64; 72]) {
@@ -96,14 +101,49 @@ fn price(fd: i32, text: &[u8]) {
     show_prices(refusal, &prices);
 }
 
+// The lines that a program prints, a space for the end of each.
+fn show_printed(output: &mut [u8; 768], length: usize) {
+    let mut i: usize = 0;
+    while i < 768 {
+        if output[i] == 10 {
+            output[i] = 32;
+        }
+        i += 1;
+    }
+    show(part(output, 0, length));
+}
+
+// The program `price` on an input.
+fn run_price(input: &[u8]) {
+    let mut output = [0u8; 768];
+    let written = price_text(input, &mut output);
+    let Written::Ended { next } = written else {
+        return;
+    };
+    show_printed(&mut output, next);
+}
+
+// The program `curves` on an input in two parts.
+fn run_curves(fd: i32, input: &[u8]) {
+    let first = read_count(fd, input.len());
+    let mut buffer = io::large_buffer();
+    let begun = feed(stream::start(), &mut buffer, part(input, 0, first));
+    let ended = feed(begun, &mut buffer, part(input, first, input.len()));
+    let mut output = [0u8; 768];
+    let length = finish(ended, &buffer, &mut output);
+    show_printed(&mut output, length);
+}
+
 // The operation whose number follows in the file.
 pub(crate) fn operate(fd: i32, text: &mut [u8]) {
-    let operation = read_count(fd, 4);
+    let operation = read_count(fd, 6);
     match operation {
         0 => book(fd, text),
         1 => settle(fd),
         2 => read(text),
         3 => write(fd, text),
-        _ => price(fd, text),
+        4 => price(fd, text),
+        5 => run_price(text),
+        _ => run_curves(fd, text),
     }
 }
