@@ -120,8 +120,8 @@ pub struct Case {
 #[derive(Clone, Debug, PartialEq, Eq)]
 pub enum Answer {
     Accepted(Vec<i64>),
-    /// With the buffer's checksum, where a buffer was lent.
-    Refused(Refusal, Option<i64>),
+    /// With the numbers of what was lent, which stand as before.
+    Refused(Refusal, Vec<i64>),
     /// The lines that a program prints.
     Printed(String),
 }
@@ -129,16 +129,12 @@ pub enum Answer {
 impl Answer {
     /// The answer's line in `expected.txt`, without its byte 10.
     pub fn line(&self) -> String {
+        let numbers =
+            |numbers: &[i64]| -> String { numbers.iter().map(|one| format!(" {one}")).collect() };
         match self {
-            Answer::Accepted(numbers) => {
-                let numbers: Vec<String> = numbers.iter().map(i64::to_string).collect();
-                format!("accepted {}", numbers.join(" "))
-            }
-            Answer::Refused(Refusal { number, line }, None) => {
-                format!("refused {number} line {line}")
-            }
-            Answer::Refused(Refusal { number, line }, Some(checksum)) => {
-                format!("refused {number} line {line} buffer {checksum}")
+            Answer::Accepted(values) => format!("accepted{}", numbers(values)),
+            Answer::Refused(Refusal { number, line }, values) => {
+                format!("refused {number} line {line}{}", numbers(values))
             }
             Answer::Printed(lines) => lines.replace('\n', " "),
         }
@@ -188,31 +184,28 @@ pub fn curve_numbers(curves: &CurveSet) -> Vec<i64> {
         .collect()
 }
 
+/// What stands in each number of an array that an answer is lent.
+const LENT: i64 = 7;
+
 /// The reference's answer.
 pub fn answer(input: &Input) -> Answer {
-    let refused = |refusal| Answer::Refused(refusal, None);
+    let refused = |lent| move |refusal| Answer::Refused(refusal, vec![LENT; lent]);
     match input {
         Input::Book { record, text } => match book(record, &text.bytes()) {
             Ok(record) => Answer::Accepted(record_numbers(&record)),
-            Err(refusal) => refused(refusal),
+            Err(refusal) => Answer::Refused(refusal, record_numbers(record)),
         },
         Input::Settle {
             record,
             voll,
             floor,
-        } => match settle(record, *voll, *floor) {
-            Ok(curves) => Answer::Accepted(curve_numbers(&curves)),
-            Err(refusal) => refused(refusal),
-        },
-        Input::Read { text } => match read_curves(&text.bytes()) {
-            Ok(curves) => Answer::Accepted(curve_numbers(&curves)),
-            Err(refusal) => refused(refusal),
-        },
+        } => settle(record, *voll, *floor).map_or_else(refused(50), curves_answer),
+        Input::Read { text } => read_curves(&text.bytes()).map_or_else(refused(50), curves_answer),
         Input::Write { curves, length } => {
             let mut buffer: Vec<u8> = (0..*length).map(buffer_byte).collect();
             match write_curves(curves, &mut buffer) {
                 Ok(written) => Answer::Accepted(vec![written as i64, checksum(&buffer)]),
-                Err(refusal) => Answer::Refused(refusal, Some(checksum(&buffer))),
+                Err(refusal) => Answer::Refused(refusal, vec![LENT, checksum(&buffer)]),
             }
         }
         Input::Price { curves, text } => match price_snapshot(curves, &text.bytes()) {
@@ -224,11 +217,15 @@ pub fn answer(input: &Input) -> Answer {
                 prices.online,
                 prices.offline,
             ]),
-            Err(refusal) => refused(refusal),
+            Err(refusal) => refused(6)(refusal),
         },
         Input::PriceProgram { text } => printed(run_price(&text.bytes())),
         Input::CurvesProgram { text, .. } => printed(run_curves(&text.bytes())),
     }
+}
+
+fn curves_answer(curves: CurveSet) -> Answer {
+    Answer::Accepted(curve_numbers(&curves))
 }
 
 fn printed(output: Vec<u8>) -> Answer {

@@ -5,7 +5,6 @@ use crate::input::read_numbers;
 use crate::output::show;
 use crate::output::show_answer;
 use crate::output::show_count;
-use crate::output::show_number;
 use ordc::booking::ordc_book;
 use ordc::booking::settle::ordc_settle;
 use ordc::curve_text::ordc_read_curves;
@@ -18,27 +17,16 @@ use stream_input::feed;
 use stream_output::finish;
 use writer::Written;
 
-// A refused booking has to leave the record as it was: each number that changed is shown after the refusal, where nothing is due.
-fn show_booking(refusal: Refusal, before: &[i64; 72], after: &[i64; 72]) {
-    show_answer(refusal, after);
-    if refusal.number == 0 {
-        return;
-    }
-    let mut i: usize = 0;
-    while i < 72 {
-        if before[i] != after[i] {
-            show_number(after[i]);
-        }
-        i += 1;
-    }
+// The arrays that an operation is lent are shown on a refusal too, where they have to stand as before.
+fn show_record(refusal: Refusal, history: &[i64; 72]) {
+    show_answer(refusal, history);
 }
 
 fn book(fd: i32, text: &[u8]) {
     let mut history = [0i64; 72];
     read_numbers(fd, &mut history);
-    let before = history;
     let refusal = ordc_book(&mut history, text);
-    show_booking(refusal, &before, &history);
+    show_record(refusal, &history);
 }
 
 fn show_curves(refusal: Refusal, curves: &[i64; 50]) {
@@ -48,13 +36,13 @@ fn show_curves(refusal: Refusal, curves: &[i64; 50]) {
 fn settle(fd: i32) {
     let mut history = [0i64; 72];
     read_numbers(fd, &mut history);
-    let mut curves = [0i64; 50];
+    let mut curves = [7i64; 50];
     let refusal = ordc_settle(&history, read_number(fd), read_number(fd), &mut curves);
     show_curves(refusal, &curves);
 }
 
 fn read(text: &[u8]) {
-    let mut curves = [0i64; 50];
+    let mut curves = [7i64; 50];
     let refusal = ordc_read_curves(text, &mut curves);
     show_curves(refusal, &curves);
 }
@@ -69,23 +57,14 @@ fn checksum(bytes: &[u8]) -> u64 {
     sum
 }
 
-// What stands between the answer of a writing and the checksum.
-fn show_written(refusal: Refusal, length: usize) {
-    if refusal.number != 0 {
-        show(b" buffer");
-        return;
-    }
-    show_count(length as u64);
-}
-
 // The text is the buffer that is written to.
 fn write(fd: i32, text: &mut [u8]) {
     let mut curves = [0i64; 50];
     read_numbers(fd, &mut curves);
-    let mut length: usize = 0;
+    let mut length: usize = 7;
     let refusal = ordc_write_curves(&curves, text, &mut length);
     show_answer(refusal, &[]);
-    show_written(refusal, length);
+    show_count(length as u64);
     show_count(checksum(text));
 }
 
@@ -96,7 +75,7 @@ fn show_prices(refusal: Refusal, prices: &[i64; 6]) {
 fn price(fd: i32, text: &[u8]) {
     let mut curves = [0i64; 50];
     read_numbers(fd, &mut curves);
-    let mut prices = [0i64; 6];
+    let mut prices = [7i64; 6];
     let refusal = ordc_price(&curves, text, &mut prices);
     show_prices(refusal, &prices);
 }

@@ -14,7 +14,7 @@ pub(crate) fn show_count(n: u64) {
 }
 
 // A space and a number.
-pub(crate) fn show_number(z: i64) {
+fn show_number(z: i64) {
     if 0 <= z {
         show_count(magnitude(z));
         return;
@@ -23,21 +23,21 @@ pub(crate) fn show_number(z: i64) {
     io::print_decimal(STDOUT_FILENO, magnitude(z));
 }
 
-// The refusal's number and its line.
+// The refusal's number and its line; 0 is no refusal's number.
 fn show_refusal(refusal: Refusal) {
+    if refusal.number == 0 {
+        show(b"accepted");
+        return;
+    }
     show(b"refused");
     show_count(refusal.number);
     show(b" line");
     show_count(refusal.line);
 }
 
-// An answer's numbers, or its refusal. 0 is no refusal's number.
+// An answer: its refusal, and the numbers that the operation was lent.
 pub(crate) fn show_answer(refusal: Refusal, values: &[i64]) {
-    if refusal.number != 0 {
-        show_refusal(refusal);
-        return;
-    }
-    show(b"accepted");
+    show_refusal(refusal);
     let mut i: usize = 0;
     while i < values.len() {
         show_number(values[i]);

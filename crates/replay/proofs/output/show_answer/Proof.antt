@@ -13,15 +13,6 @@ abbrev μ-loop : tie.MeasureT-loop
 show-refusal-requires : tie.Need-show-refusal-requires Inv-loop μ-loop
 show-refusal-requires c κs = tt
 
-returns : tie.Need-returns Inv-loop μ-loop
-returns c = tt
-
-slice-aggregate-show : tie.Need-slice-aggregate-show Inv-loop μ-loop
-slice-aggregate-show c = omega arith
-
-show-requires : tie.Need-show-requires Inv-loop μ-loop
-show-requires c κs = tt
-
 loop-holds : tie.Need-loop-holds Inv-loop μ-loop
 loop-holds c = tt
 
@@ -43,8 +34,8 @@ loop-less c = omega arith
 loop-again : tie.Need-loop-again Inv-loop μ-loop
 loop-again c = tt
 
-returns-2 : tie.Need-returns-2 Inv-loop μ-loop
-returns-2 c = tt
+returns : tie.Need-returns Inv-loop μ-loop
+returns c = tt
 
 pub show-answer-spec : {M : Type 1} → statement M
 show-answer-spec =
@@ -53,9 +44,6 @@ show-answer-spec =
     Inv-loop
     μ-loop
     show-refusal-requires
-    returns
-    slice-aggregate-show
-    show-requires
     loop-holds
     mul-show-number
     shared-slice-copy-out-show-number
@@ -63,4 +51,4 @@ show-answer-spec =
     add-i
     loop-less
     loop-again
-    returns-2)
+    returns)
