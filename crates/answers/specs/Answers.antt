@@ -1,4 +1,4 @@
--- The faults that answers carry, and the end of a text: 9.
+-- The faults that lines and numbers carry, and the end of a text: 9.
 use Prim.Native.Nat.{ℕ}
 use mathlib.Core.List.{List}
 use lib.Dec.{ltb}
@@ -9,8 +9,6 @@ use Rattle.answers.specs.declared.Line.{Line}
 use Rattle.answers.specs.declared.Line.the-variants as line
 use Rattle.answers.specs.declared.NumberLine.{NumberLine}
 use Rattle.answers.specs.declared.NumberLine.the-variants as number-line
-use Rattle.answers.specs.declared.WordLine.{WordLine}
-use Rattle.answers.specs.declared.WordLine.the-variants as word-line
 use Rattle.answers.specs.declared.Block.{Block}
 use Rattle.answers.specs.declared.Block.the-variants as block
 
@@ -28,14 +26,6 @@ lineFault (line.Refused found) = found
 abbrev pub numberFault : NumberLine → Fault
 numberFault (number-line.Value value next) = accepted next
 numberFault (number-line.Refused found) = found
-
-abbrev pub wordFault : WordLine → Fault
-wordFault (word-line.Index index next) = accepted next
-wordFault (word-line.Refused found) = found
-
-abbrev pub blockFault : Block → Fault
-blockFault (block.Read next) = accepted next
-blockFault (block.Refused found) = found
 
 -- the end of a text is a block of no lines: 9 where bytes follow the last due line
 abbrev pub endAt : List ℕ → ℕ → Block

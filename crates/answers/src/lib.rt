@@ -1,7 +1,7 @@
-// What the readers of a text answer, and the fault that an answer carries: each answer is taken apart by `let .. else`, and the fault of a refused one is
-// handed on. An answer that is no refusal has the number 0, which is no fault, and the position where reading goes on.
+// What the readers of a text answer, and the fault that a line or a number carries: where such an answer is taken apart by `let .. else`, the fault of a
+// refused one is handed on. An answer that is no refusal has the number 0, which is no fault, and the position where reading goes on.
 ghost use mathlib.Core.Path.{_≡_};
-ghost use Rattle.answers.specs.Answers.{lineFault, numberFault, wordFault, blockFault, endAt};
+ghost use Rattle.answers.specs.Answers.{lineFault, numberFault, endAt};
 use text::refusal::Fault;
 
 // What the line reader finds at a position.
@@ -54,26 +54,6 @@ pub fn number_fault(line: NumberLine) -> Fault
     match line {
         NumberLine::Refused(fault) => fault,
         NumberLine::Value { value: _, next: at } => Fault { number: 0, at },
-    }
-}
-
-// The fault of a refused word.
-pub fn word_fault(line: WordLine) -> Fault
-    ensures { λ r. ⌜ r ≡ wordFault line ⌝ }
-{
-    match line {
-        WordLine::Refused(fault) => fault,
-        WordLine::Index { index: _, next: at } => Fault { number: 0, at },
-    }
-}
-
-// The fault of a refused block.
-pub fn block_fault(block: Block) -> Fault
-    ensures { λ r. ⌜ r ≡ blockFault block ⌝ }
-{
-    match block {
-        Block::Refused(fault) => fault,
-        Block::Read { next: at } => Fault { number: 0, at },
     }
 }
 

@@ -16,7 +16,7 @@ use Rattle.piece.specs.Piece.{part}
 use Rattle.line.specs.Field.{Judged, good, bad, Field, Answer, got, refused, judged, valueIn, fieldAt}
 use Rattle.block.specs.Block.{Reading, andThen, readFields}
 use Rattle.text.specs.declared.refusal.Fault.{Fault}
-use Rattle.answers.specs.Answers.{fault, lineFault, blockFault}
+use Rattle.answers.specs.Answers.{fault, lineFault}
 use Rattle.answers.specs.declared.Line.{Line}
 use Rattle.answers.specs.declared.Line.the-variants as line
 use Rattle.answers.specs.declared.Block.{Block}
@@ -92,6 +92,10 @@ abbrev answerPosition : {A : Type 0} → Answer A → ℕ
 answerPosition (got value next) = next
 answerPosition (refused found) = found .at
 
+abbrev pub blockPosition : Block → ℕ
+blockPosition (block.Read next) = next
+blockPosition (block.Refused found) = found .at
+
 module _ (text : List ℕ) where
   line-within : (key : List ℕ) (at : ℕ) → at ≤ length text → lineFault (lineAt key text at) .at ≤ length text
   unfolding lineIn
@@ -129,13 +133,13 @@ module _ (text : List ℕ) where
       go (line.Value start end next) n = judged-within next (field .read (part text start end)) n
       go (line.Refused found) n = n
 
-  pub reading-within : {A : Type 0} (fields : List (Field A)) (at : ℕ) → at ≤ length text → blockFault (readFields fields text at .end) .at ≤ length text
+  pub reading-within : {A : Type 0} (fields : List (Field A)) (at : ℕ) → at ≤ length text → blockPosition (readFields fields text at .end) ≤ length text
   unfolding readFields
   reading-within [] at h = h
   reading-within {A} (field ∷ fields) at h = go (fieldAt field text at) (field-within field at h) (reading-within fields)
     where
       go :
-          (answer : Answer A) → answerPosition answer ≤ length text → ((at : ℕ) → at ≤ length text → blockFault (readFields fields text at .end) .at ≤ length text) →
-          blockFault (andThen answer (λ next. readFields fields text next) .end) .at ≤ length text
+          (answer : Answer A) → answerPosition answer ≤ length text → ((at : ℕ) → at ≤ length text → blockPosition (readFields fields text at .end) ≤ length text) →
+          blockPosition (andThen answer (λ next. readFields fields text next) .end) ≤ length text
       go (got value next) n again = again next n
       go (refused found) n again = n

@@ -13,7 +13,7 @@ use Rattle.text.specs.Choice.{pick}
 use Rattle.text.specs.Bytes.{bytes}
 use Rattle.piece.specs.Piece.{piecesFrom}
 use Rattle.text.specs.Refusal.{refusalOf}
-use Rattle.answers.specs.Answers.{endAt, blockFault}
+use Rattle.answers.specs.Answers.{endAt}
 use Rattle.text.specs.declared.refusal.Fault.{Fault}
 use Rattle.text.specs.declared.refusal.Refusal.{Refusal}
 use Rattle.text.proofs.Choices.{chosen, passed-over}
@@ -114,9 +114,9 @@ module _ {text : List ℕ} {values : List ℤ} {ended : Block} (short : length t
       go (block.Read next) = refl
 
   pub text-refused :
-      {found fault : Fault} {refusal : Refusal} {curves : Curves} → ended ≡ block.Refused found → fault ≡ blockFault ended → refusal ≡ refusalOf text fault →
+      {found : Fault} {refusal : Refusal} {curves : Curves} → ended ≡ block.Refused found → refusal ≡ refusalOf text found →
       curves ≡ refusedCurves (answer.Refused refusal) → curves ≡ readCurves text
-  text-refused told fault-is refusal-is curves-is = rw (curves-is, refusal-is, fault-is, decided, told)
+  text-refused told refusal-is curves-is = rw (curves-is, refusal-is, decided, told)
 
   pub text-accepted :
       {stop : ℕ} {set : CurveSet} → ended ≡ block.Read stop → set ≡ curvesOf values → record { set = set; answer = answer.Accepted } ≡ readCurves text

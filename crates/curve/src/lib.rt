@@ -4,7 +4,6 @@ ghost use Rattle.curve_values.specs.CurveValues.{curveValues};
 ghost use Rattle.curve_set.specs.Curves.{evenCurves};
 ghost use Rattle.curve.specs.CurveText.{CurveLines, readCurves, CurvesWritten};
 use answers::Block;
-use answers::block_fault;
 use answers::end_at;
 use block::read_block;
 use curve_set::CurveSet;
@@ -58,14 +57,15 @@ pub fn read_curves(text: &[u8]) -> Curves
         return refused_curves(2, 0);
     }
     let mut values = [0i64; 50];
-    let b = read_lines(text, &mut values);
-    let Block::Read { next: _ } = b else {
-        let found = refusal_of(text, block_fault(b));
-        return refused_curves(found.number, found.line);
-    };
-    Curves {
-        set: curves_of(values),
-        answer: Answer::Accepted,
+    match read_lines(text, &mut values) {
+        Block::Refused(fault) => {
+            let found = refusal_of(text, fault);
+            refused_curves(found.number, found.line)
+        }
+        Block::Read { next: _ } => Curves {
+            set: curves_of(values),
+            answer: Answer::Accepted,
+        },
     }
 }
 

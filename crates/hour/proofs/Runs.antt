@@ -12,13 +12,12 @@ use Rattle.piece.specs.Piece.{piecesFrom}
 use Rattle.text.specs.Bytes.{bytes}
 use Rattle.block.specs.Block.{Reading, readFields, repeated, numberFields, keysOf, placedFields, BlockRead, value}
 use Rattle.text.specs.declared.refusal.Fault.{Fault}
-use Rattle.answers.specs.Answers.{blockFault}
 use Rattle.answers.specs.declared.Block.{Block}
 use Rattle.answers.specs.declared.Block.the-variants as block
 use Rattle.hour.specs.Hour.{runFields, runOf, runsOf, scedReserve, scedSum, intervalsOf, intervalsIn, intervalFault, Bounded}
 use Rattle.hour.specs.declared.read.Intervals.{Intervals}
 use Rattle.hour.specs.declared.read.Intervals.the-variants as intervals
-use Rattle.block.proofs.Shifted.{reading-within}
+use Rattle.block.proofs.Shifted.{blockPosition, reading-within}
 use Rattle.block.proofs.Readings.{reading-append, reading-length, block-ends, block-values, values-bounded}
 
 pub runs-length : (n : ℕ) (values : List ℤ) → length (runsOf n values) ≡ n
@@ -108,8 +107,8 @@ module _
   run-held next e place = rw (run-filled next e) (run-bounded part at next (sym run-ends ∙ e) place)
 
   -- one run as an interval reader gives it
-  pub one-refused : {found fault : Fault} → ended ≡ block.Refused found → fault ≡ blockFault ended → intervals.Refused fault ≡ intervalsOf 1 (readFields runFields part at)
-  one-refused told is = rw (is, ← run-ends, told)
+  pub one-refused : {found : Fault} → ended ≡ block.Refused found → intervals.Refused found ≡ intervalsOf 1 (readFields runFields part at)
+  one-refused told = rw (← run-ends, told)
 
   pub one-read : {next : ℕ} {reserve : ℤ} → ended ≡ block.Read next → reserve ≡ scedReserve (runOf values) → intervals.Sum reserve next ≡ intervalsOf 1 (readFields runFields part at)
   unfolding runsOf scedSum
@@ -218,10 +217,10 @@ runs-bounded (suc n) part at = go (readFields runFields part at .end) refl (runs
 pub runs-within : (n : ℕ) (part : List ℕ) → intervalFault (intervalsIn n part) .at ≤ length part
 runs-within n part = go (readFields (repeated n runFields) part 0) (reading-within part (repeated n runFields) 0 (omega arith))
   where
-    go : (reading : Reading ℤ) → blockFault (reading .end) .at ≤ length part → intervalFault (intervalsOf n reading) .at ≤ length part
+    go : (reading : Reading ℤ) → blockPosition (reading .end) ≤ length part → intervalFault (intervalsOf n reading) .at ≤ length part
     go reading h = by-end (reading .end) refl h
       where
-        by-end : (end : Block) → reading .end ≡ end → blockFault end .at ≤ length part → intervalFault (intervalsOf n reading) .at ≤ length part
+        by-end : (end : Block) → reading .end ≡ end → blockPosition end ≤ length part → intervalFault (intervalsOf n reading) .at ≤ length part
         by-end (block.Read next) e h = rw e h
         by-end (block.Refused found) e h = rw e h
 

@@ -6,7 +6,6 @@ ghost use Rattle.hour.specs.Hour.{runFields, intervalsOf, intervalsIn, i
 use crate::read::Intervals;
 use crate::reserve::sced_reserve;
 use answers::Block;
-use answers::block_fault;
 use block::read_block;
 use text::refusal::Fault;
 
@@ -25,12 +24,12 @@ fn run_at(part: &[u8], at: usize) -> Intervals
         &highs,
         &mut v,
     );
-    let Block::Read { next } = b else {
-        return Intervals::Refused(block_fault(b));
-    };
-    Intervals::Sum {
-        sum: sced_reserve(&v),
-        next,
+    match b {
+        Block::Refused(fault) => Intervals::Refused(fault),
+        Block::Read { next } => Intervals::Sum {
+            sum: sced_reserve(&v),
+            next,
+        },
     }
 }
 

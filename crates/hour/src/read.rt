@@ -11,7 +11,6 @@ use crate::intervals::interval_fault;
 use crate::intervals::read_intervals;
 use crate::reserve::reserve_error;
 use answers::Block;
-use answers::block_fault;
 use answers::end_at;
 use block::read_block;
 use integer::floor_div;
@@ -81,11 +80,10 @@ fn runs_at(text: &[u8], next: usize, v: &[i64]) -> ReadHour
     let Intervals::Sum { sum, next: length } = i else {
         return ReadHour::Refused(refusal_of(text, interval_fault(i, next)));
     };
-    let e = end_at(text, next + length);
-    let Block::Read { next: _ } = e else {
-        return ReadHour::Refused(refusal_of(text, block_fault(e)));
-    };
-    error_of(v, runs, sum)
+    match end_at(text, next + length) {
+        Block::Refused(fault) => ReadHour::Refused(refusal_of(text, fault)),
+        Block::Read { next: _ } => error_of(v, runs, sum),
+    }
 }
 
 // An hour's text read: its group and its reserve error.
@@ -104,8 +102,8 @@ pub fn read_hour(text: &[u8]) -> ReadHour
         &HIGHS,
         &mut v,
     );
-    let Block::Read { next } = b else {
-        return ReadHour::Refused(refusal_of(text, block_fault(b)));
-    };
-    runs_at(text, next, &v)
+    match b {
+        Block::Refused(fault) => ReadHour::Refused(refusal_of(text, fault)),
+        Block::Read { next } => runs_at(text, next, &v),
+    }
 }

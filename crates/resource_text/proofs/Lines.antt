@@ -9,7 +9,6 @@ use Rattle.text.specs.Bytes.{bytes}
 use Rattle.piece.specs.Piece.{piecesFrom}
 use Rattle.text.specs.declared.refusal.Fault.{Fault}
 use Rattle.line.specs.Field.{Field, Answer, got, refused, fieldAt}
-use Rattle.answers.specs.Answers.{wordFault, blockFault}
 use Rattle.word.specs.Word.{wordAnswer}
 use Rattle.answers.specs.declared.WordLine.{WordLine}
 use Rattle.answers.specs.declared.WordLine.the-variants as word-line
@@ -95,8 +94,8 @@ module _
 -- ---- the lines of a resource, if they were read
 
 module _ {A : Type 0} (one : A) {b : Block} where
-  pub lines-refused : {fault found : Fault} → b ≡ block.Refused found → fault ≡ blockFault b → refused fault ≡ ofBlock (λ v. one) [] b
-  lines-refused told is = rw (is, told)
+  pub lines-refused : {found : Fault} → b ≡ block.Refused found → refused found ≡ ofBlock (λ v. one) [] b
+  lines-refused told = rw told
 
   pub lines-read : {next : ℕ} → b ≡ block.Read next → got one next ≡ ofBlock (λ v. one) [] b
   lines-read told = rw told
@@ -104,8 +103,8 @@ module _ {A : Type 0} (one : A) {b : Block} where
 -- ---- a word, and what follows it
 
 module _ {A : Type 0} {line : WordLine} {answer : Answer ℕ} (more : ℕ → ℕ → Answer A) (read : wordAnswer line ≡ answer) where
-  pub word-refused : {fault found : Fault} → line ≡ word-line.Refused found → fault ≡ wordFault line → refused fault ≡ afterAnswer answer more
-  word-refused told is = rw (is, ← read, told)
+  pub word-refused : {found : Fault} → line ≡ word-line.Refused found → refused found ≡ afterAnswer answer more
+  word-refused told = rw (← read, told)
 
   pub word-then : {index next : ℕ} → line ≡ word-line.Index index next → more index next ≡ afterAnswer answer more
   word-then told = rw (← read, told)

@@ -9,8 +9,6 @@ use crate::made::load_of;
 use crate::made::status_of;
 use answers::Block;
 use answers::WordLine;
-use answers::block_fault;
-use answers::word_fault;
 use block::read_block;
 use resource::Kind;
 use resource::Resource;
@@ -21,10 +19,10 @@ use word::word_at;
 fn lines_of(b: Block, resource: Resource) -> ResourceLines
     ensures { λ r. ⌜ linesAnswer r ≡ ofBlock (λ v. resource) [] b ⌝ }
 {
-    let Block::Read { next } = b else {
-        return ResourceLines::Refused(block_fault(b));
-    };
-    ResourceLines::Read { resource, next }
+    match b {
+        Block::Refused(fault) => ResourceLines::Refused(fault),
+        Block::Read { next } => ResourceLines::Read { resource, next },
+    }
 }
 
 // The lines of a generator after its status.
@@ -55,10 +53,10 @@ pub(crate) fn generator_at(text: &[u8], at: usize, kind: Kind) -> ResourceLines
         b"status=",
         b"ON\nOFF\nOFFNS\nONTEST\nSTARTUP\nSHUTDOWN\nOUT\n",
     );
-    let WordLine::Index { index, next } = w else {
-        return ResourceLines::Refused(word_fault(w));
-    };
-    generator_lines(text, next, kind, status_of(index))
+    match w {
+        WordLine::Refused(fault) => ResourceLines::Refused(fault),
+        WordLine::Index { index, next } => generator_lines(text, next, kind, status_of(index)),
+    }
 }
 
 // The lines of a controllable load after its kind.

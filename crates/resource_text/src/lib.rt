@@ -9,7 +9,6 @@ use crate::kinds::generator_at;
 use crate::kinds::load_at;
 use crate::made::kind_of;
 use answers::WordLine;
-use answers::word_fault;
 use resource::Resource;
 use text::refusal::Fault;
 use word::word_at;
@@ -37,9 +36,8 @@ fn of_kind(text: &[u8], index: usize, at: usize) -> ResourceLines
 pub fn resource_at(text: &[u8], at: usize) -> ResourceLines
     ensures { λ r. ⌜ linesAnswer r ≡ resourceAt (now (text .entry)) at ⌝ }
 {
-    let w = word_at(text, at, b"kind=", b"gen\nwind\nirr\nnuke\nclr\nnclr\n");
-    let WordLine::Index { index, next } = w else {
-        return ResourceLines::Refused(word_fault(w));
-    };
-    of_kind(text, index, next)
+    match word_at(text, at, b"kind=", b"gen\nwind\nirr\nnuke\nclr\nnclr\n") {
+        WordLine::Refused(fault) => ResourceLines::Refused(fault),
+        WordLine::Index { index, next } => of_kind(text, index, next),
+    }
 }

@@ -5,16 +5,15 @@ use crate::show::show_count;
 use crate::show::show_fault;
 use crate::show::show_next;
 use crate::show::show_number;
+use answers::Block;
 use answers::Line;
 use answers::NumberLine;
 use answers::WordLine;
-use answers::block_fault;
 use answers::end_at;
 use block::read_block;
 use id::id_at;
 use number::number_at;
 use piece::part;
-use text::refusal::Fault;
 use word::word_at;
 
 pub(crate) fn number_case(text: &[u8], at: usize, low: i64, high: i64) {
@@ -58,29 +57,13 @@ pub(crate) fn id_case(text: &[u8], key: &[u8]) {
     }
 }
 
-fn show_values(values: &[i64; 3]) {
+fn show_values(values: &[i64; 3], next: usize) {
     show(b"values=");
     show_number(values[0]);
     show_byte(b',');
     show_number(values[1]);
     show_byte(b',');
     show_number(values[2]);
-}
-
-// The values are shown where the block was read and the text ends with it. No refusal has the number 0: `block_fault` gives it, with the position
-// where reading goes on, for what was read.
-fn show_block(text: &[u8], read: Fault, values: &[i64; 3]) {
-    if read.number != 0 {
-        show_fault(text, read);
-        return;
-    }
-    let next = read.at;
-    let end = block_fault(end_at(text, next));
-    if end.number != 0 {
-        show_fault(text, end);
-        return;
-    }
-    show_values(values);
     show_next(next);
 }
 
@@ -88,6 +71,11 @@ pub(crate) fn block_case(text: &[u8]) {
     let lows = [1i64, 0, -20];
     let highs = [12i64, 23, 20];
     let mut values = [0i64; 3];
-    let read = read_block(text, 0, b"month=hour=tie=", &lows, &highs, &mut values);
-    show_block(text, block_fault(read), &values);
+    match read_block(text, 0, b"month=hour=tie=", &lows, &highs, &mut values) {
+        Block::Refused(fault) => show_fault(text, fault),
+        Block::Read { next } => match end_at(text, next) {
+            Block::Refused(fault) => show_fault(text, fault),
+            Block::Read { next: end } => show_values(&values, end),
+        },
+    }
 }

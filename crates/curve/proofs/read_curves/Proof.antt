@@ -20,14 +20,8 @@ returns c =
 read-lines-requires : tie.Need-read-lines-requires
 read-lines-requires c κs = tt
 
-enum-told : tie.Need-enum-told
-enum-told c = omega arith
-
-enum-told-2 : tie.Need-enum-told-2
-enum-told-2 c = omega arith
-
-block-fault-requires : tie.Need-block-fault-requires
-block-fault-requires c κs = tt
+enum-known-fault : tie.Need-enum-known-fault
+enum-known-fault c = c .match .keys1
 
 refusal-of-requires : tie.Need-refusal-of-requires
 refusal-of-requires c κs = tt
@@ -35,14 +29,17 @@ refusal-of-requires c κs = tt
 refused-curves-requires-2 : tie.Need-refused-curves-requires-2
 refused-curves-requires-2 c κs = tt
 
-returns-2 : tie.Need-returns-2
-returns-2 c =
-    let told = c .before .before .before in
-    let read = told .before .before in
-    text-refused (read .before .before .if1 .left) (read .read-lines .ensures) (told .enum-told2 .given .1) (c .before .before .block-fault .ensures) (c .before .refusal-of .ensures) (c .refused-curves2 .ensures)
+enum-told : tie.Need-enum-told
+enum-told c = c .match .keys2
 
 curves-of-requires : tie.Need-curves-of-requires
 curves-of-requires c κs = tt
+
+returns-2 : tie.Need-returns-2
+returns-2 c =
+    let known = c .before .before .before in
+    let read = known .before .before in
+    text-refused (read .before .before .if1 .left) (read .read-lines .ensures) (known .fault .given .1) (c .before .refusal-of .ensures) (c .refused-curves2 .ensures)
 
 returns-3 : tie.Need-returns-3
 returns-3 c =
@@ -56,11 +53,10 @@ read-curves-spec =
     refused-curves-requires
     returns
     read-lines-requires
-    enum-told
-    enum-told-2
-    block-fault-requires
+    enum-known-fault
     refusal-of-requires
     refused-curves-requires-2
-    returns-2
+    enum-told
     curves-of-requires
+    returns-2
     returns-3)

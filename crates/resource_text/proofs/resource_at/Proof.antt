@@ -1,4 +1,3 @@
-use native.Mathlib.Omega.{arith}
 use mathlib.Core.Path.{refl, _∙_}
 use Rattle.text.specs.Bytes.{bytes}
 use Rattle.line.specs.Field.{fieldAt}
@@ -16,21 +15,19 @@ slice-aggregate-word-at-2 c = refl
 word-at-requires : tie.Need-word-at-requires
 word-at-requires c κs = tt
 
-enum-known-w : tie.Need-enum-known-w
-enum-known-w c = omega arith
+enum-known-fault : tie.Need-enum-known-fault
+enum-known-fault c = c .match .keys1
 
-enum-told : tie.Need-enum-told
-enum-told c = omega arith
-
-word-fault-requires : tie.Need-word-fault-requires
-word-fault-requires c κs = tt
+enum-known-index : tie.Need-enum-known-index
+enum-known-index c = c .match .keys2
 
 returns : tie.Need-returns
 unfolding resourceAt bytes
 returns c =
-    let word = c .before .before .before in
+    let known = c .before in
+    let word = known .before .before in
     let a = word .before .before .before .before .args in
-    word-refused {answer = fieldAt kindField (a .text .now) (a .at)} (ofKind (a .text .now)) (word .word-at .ensures) (c .before .enum-told .given .1) (c .word-fault .ensures)
+    word-refused {answer = fieldAt kindField (a .text .now) (a .at)} (ofKind (a .text .now)) (word .word-at .ensures) (known .fault .given .1)
 
 of-kind-requires : tie.Need-of-kind-requires
 of-kind-requires c κs = tt
@@ -42,7 +39,7 @@ returns-2 c =
     let word = known .before .before in
     let a = word .before .before .before .before .args in
     c .of-kind .ensures
-    ∙ word-then {answer = fieldAt kindField (a .text .now) (a .at)} (ofKind (a .text .now)) (word .word-at .ensures) (known .w .given .1)
+    ∙ word-then {answer = fieldAt kindField (a .text .now) (a .at)} (ofKind (a .text .now)) (word .word-at .ensures) (known .index .given .1)
 
 pub resource-at-spec : {M : Type 1} → statement M
-resource-at-spec = tie.close (tie.spec slice-aggregate-word-at slice-aggregate-word-at-2 word-at-requires enum-known-w enum-told word-fault-requires returns of-kind-requires returns-2)
+resource-at-spec = tie.close (tie.spec slice-aggregate-word-at slice-aggregate-word-at-2 word-at-requires enum-known-fault enum-known-index of-kind-requires returns returns-2)

@@ -24,17 +24,8 @@ read-block-requires c κs = tt
 enum-known-b : tie.Need-enum-known-b
 enum-known-b c = c .match .keys1
 
-enum-told : tie.Need-enum-told
-enum-told c = c .match .keys2
-
-block-fault-requires : tie.Need-block-fault-requires
-block-fault-requires c κs = tt
-
-returns : tie.Need-returns
-unfolding bytes
-returns c =
-    let read = c .before .before .before .before in
-    one-refused (read .read-block .ensures) (c .before .enum-told .given .1) (c .block-fault .ensures)
+enum-known-b-2 : tie.Need-enum-known-b-2
+enum-known-b-2 c = c .match .keys2
 
 slice-aggregate-sced-reserve : tie.Need-slice-aggregate-sced-reserve
 slice-aggregate-sced-reserve c = omega arith
@@ -44,14 +35,21 @@ unfolding bytes
 sced-reserve-requires c κs =
     let known = c .before .before in
     let read = known .before .before .before in
-    (omega arith, run-held (read .read-block .ensures) (known .b .given .0 .0) (known .b .given .1))
+    (omega arith, run-held (read .read-block .ensures) (known .b2 .given .0 .0) (known .b2 .given .1))
+
+returns : tie.Need-returns
+unfolding bytes
+returns c =
+    let known = c .before in
+    let read = known .before .before .before in
+    one-refused (read .read-block .ensures) (known .b .given .1)
 
 returns-2 : tie.Need-returns-2
 unfolding bytes
 returns-2 c =
     let known = c .before .before .before in
     let read = known .before .before .before in
-    one-read (read .read-block .ensures) (known .b .given .1) (held (c .sced-reserve .result) (c .sced-reserve .ok) ∙ c .sced-reserve .ensures)
+    one-read (read .read-block .ensures) (known .b2 .given .1) (held (c .sced-reserve .result) (c .sced-reserve .ok) ∙ c .sced-reserve .ensures)
 
 pub run-at-spec : {M : Type 1} → statement M
 run-at-spec =
@@ -63,9 +61,8 @@ run-at-spec =
     slice-aggregate-read-block-4
     read-block-requires
     enum-known-b
-    enum-told
-    block-fault-requires
-    returns
+    enum-known-b-2
     slice-aggregate-sced-reserve
     sced-reserve-requires
+    returns
     returns-2)

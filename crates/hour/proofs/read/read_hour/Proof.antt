@@ -27,22 +27,11 @@ read-block-requires c κs = tt
 enum-known-b : tie.Need-enum-known-b
 enum-known-b c = c .match .keys1
 
-enum-told : tie.Need-enum-told
-enum-told c = c .match .keys2
-
-block-fault-requires : tie.Need-block-fault-requires
-block-fault-requires c κs = tt
-
 refusal-of-requires : tie.Need-refusal-of-requires
 refusal-of-requires c κs = tt
 
-returns-2 : tie.Need-returns-2
-unfolding bytes
-returns-2 c =
-    let read = c .before .before .before .before .before in
-    let told = c .before .before .enum-told .given .1 in
-    rw (c .refusal-of .ensures, c .before .block-fault .ensures, told)
-    (hour-refused (read .before .before .before .before .before .if1 .left) (read .read-block .ensures) _ told)
+enum-known-b-2 : tie.Need-enum-known-b-2
+enum-known-b-2 c = c .match .keys2
 
 slice-aggregate-runs-at : tie.Need-slice-aggregate-runs-at
 slice-aggregate-runs-at c = omega arith
@@ -53,16 +42,24 @@ runs-at-requires c κs =
     let known = c .before .before in
     let read = known .before .before .before in
     let short = read .before .before .before .before .before .if1 .left in
-    let told = known .b .given .1 in
+    let told = known .b2 .given .1 in
     let block = read .read-block .ensures in
     (short, next-within short block _ told, omega arith, runs-few short block _ told, own-bounded short block _ told)
+
+returns-2 : tie.Need-returns-2
+unfolding bytes
+returns-2 c =
+    let known = c .before .before in
+    let read = known .before .before .before in
+    rw (c .refusal-of .ensures)
+    (hour-refused (read .before .before .before .before .before .if1 .left) (read .read-block .ensures) _ (known .b .given .1))
 
 returns-3 : tie.Need-returns-3
 unfolding bytes
 returns-3 c =
     let known = c .before .before .before in
     let read = known .before .before .before in
-    c .runs-at .ensures ∙ runs-left (read .before .before .before .before .before .if1 .left) (read .read-block .ensures) _ (known .b .given .1)
+    c .runs-at .ensures ∙ runs-left (read .before .before .before .before .before .if1 .left) (read .read-block .ensures) _ (known .b2 .given .1)
 
 pub read-hour-spec : {M : Type 1} → statement M
 read-hour-spec =
@@ -75,10 +72,9 @@ read-hour-spec =
     slice-aggregate-read-block-4
     read-block-requires
     enum-known-b
-    enum-told
-    block-fault-requires
     refusal-of-requires
-    returns-2
+    enum-known-b-2
     slice-aggregate-runs-at
     runs-at-requires
+    returns-2
     returns-3)

@@ -57,28 +57,14 @@ add-end-at c =
 end-at-requires : tie.Need-end-at-requires
 end-at-requires c κs = tt
 
-enum-told-2 : tie.Need-enum-told-2
-enum-told-2 c = c .match2 .keys1
-
-enum-told-3 : tie.Need-enum-told-3
-enum-told-3 c = c .match2 .keys2
-
-block-fault-requires : tie.Need-block-fault-requires
-block-fault-requires c κs = tt
+enum-known-fault : tie.Need-enum-known-fault
+enum-known-fault c = c .match2 .keys1
 
 refusal-of-requires-2 : tie.Need-refusal-of-requires-2
 refusal-of-requires-2 c κs = tt
 
-returns-2 : tie.Need-returns-2
-returns-2 c =
-    let ended = c .before .before .before .before in
-    let sum = ended .before .before in
-    let given = sum .before .before in
-    let counted = given .before .before in
-    let start = counted .before .before in
-    let told = c .before .before .enum-told3 .given .1 in
-    rw (c .refusal-of2 .ensures, c .before .block-fault .ensures, told)
-    (runs-ended (start .args .text .now) (start .args .v .now) (start .args .next) (start .pre .1) (counted .magnitude-at .ensures) (given .read-intervals .ensures) _ _ (sum .i .given .1) _ (sym told ∙ ended .end-at .ensures))
+enum-told-2 : tie.Need-enum-told-2
+enum-told-2 c = c .match2 .keys2
 
 error-of-requires : tie.Need-error-of-requires
 error-of-requires c κs =
@@ -92,6 +78,17 @@ error-of-requires c κs =
           (mean-small (start .args .text .now) (start .args .v .now) (start .args .next) (start .pre .1) (counted .magnitude-at .ensures) (given .read-intervals .ensures) _ _ is),
       start .pre .4,
     )
+
+returns-2 : tie.Need-returns-2
+returns-2 c =
+    let known = c .before .before in
+    let ended = known .before .before in
+    let sum = ended .before .before in
+    let given = sum .before .before in
+    let counted = given .before .before in
+    let start = counted .before .before in
+    rw (c .refusal-of2 .ensures)
+    (runs-ended (start .args .text .now) (start .args .v .now) (start .args .next) (start .pre .1) (counted .magnitude-at .ensures) (given .read-intervals .ensures) _ _ (sum .i .given .1) _ (sym (known .fault .given .1) ∙ ended .end-at .ensures))
 
 returns-3 : tie.Need-returns-3
 returns-3 c =
@@ -130,10 +127,9 @@ runs-at-spec =
     returns
     add-end-at
     end-at-requires
-    enum-told-2
-    enum-told-3
-    block-fault-requires
+    enum-known-fault
     refusal-of-requires-2
-    returns-2
+    enum-told-2
     error-of-requires
+    returns-2
     returns-3)

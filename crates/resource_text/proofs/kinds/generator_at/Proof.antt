@@ -1,4 +1,3 @@
-use native.Mathlib.Omega.{arith}
 use mathlib.Core.List.{List}
 use mathlib.Core.Path.{_≡_, refl}
 use Prim.Native.Nat.{ℕ}
@@ -25,13 +24,10 @@ word-at-requires : tie.Need-word-at-requires
 word-at-requires c κs = tt
 
 enum-known-w : tie.Need-enum-known-w
-enum-known-w c = omega arith
+enum-known-w c = c .match .keys1
 
-enum-told : tie.Need-enum-told
-enum-told c = omega arith
-
-word-fault-requires : tie.Need-word-fault-requires
-word-fault-requires c κs = tt
+enum-known-w-2 : tie.Need-enum-known-w-2
+enum-known-w-2 c = c .match .keys2
 
 -- after the status: the block of its fields
 abbrev after-status : Kind → List ℕ → ℕ → ℕ → Answer Resource
@@ -40,10 +36,10 @@ after-status kind text status next = blockAs (generatorOf kind (statusOf status)
 returns : tie.Need-returns
 unfolding bytes
 returns c =
-    let word = c .before .before .before in
+    let known = c .before in
+    let word = known .before .before in
     let a = word .before .before .before .before .args in
-    word-refused {answer = fieldAt statusField (a .text .now) (a .at)} (after-status (a .kind) (a .text .now))
-    (word .word-at .ensures) (c .before .enum-told .given .1) (c .word-fault .ensures)
+    word-refused {answer = fieldAt statusField (a .text .now) (a .at)} (after-status (a .kind) (a .text .now)) (word .word-at .ensures) (known .w .given .1)
 
 status-of-requires : tie.Need-status-of-requires
 status-of-requires c κs = tt
@@ -63,9 +59,9 @@ returns-2 c =
     let known = c .before .before .before in
     let word = known .before .before in
     let a = word .before .before .before .before .args in
-    read-on (a .kind) (a .text .now) (a .at) (word .word-at .ensures) (known .w .given .1) (c .before .status-of .ensures) (c .generator-lines .ensures)
+    read-on (a .kind) (a .text .now) (a .at) (word .word-at .ensures) (known .w2 .given .1) (c .before .status-of .ensures) (c .generator-lines .ensures)
 
 pub generator-at-spec : {M : Type 1} → statement M
 generator-at-spec =
     tie.close
-    (tie.spec slice-aggregate-word-at slice-aggregate-word-at-2 word-at-requires enum-known-w enum-told word-fault-requires returns status-of-requires generator-lines-requires returns-2)
+    (tie.spec slice-aggregate-word-at slice-aggregate-word-at-2 word-at-requires enum-known-w enum-known-w-2 status-of-requires generator-lines-requires returns returns-2)
