@@ -25,14 +25,14 @@ use Rattle.season.specs.Season.{groupOf, seasonOf, blockOf}
 use Rattle.text.specs.declared.refusal.Fault.{Fault}
 use Rattle.answers.specs.declared.Block.{Block}
 use Rattle.answers.specs.declared.Block.the-variants as block
-use Rattle.hour.specs.Hour.{Hour, hourFields, hourOf, Run, runFields, runsOf, read, refused, afterRuns, afterRunBlock, runsAt, afterHourBlock, hourIn, hourAhead, scedSum, errorOf, hourGroup, errorAnswer, intervalsOf, intervalsIn, intervalFault, moved, Bounded}
+use Rattle.hour.specs.Hour.{Hour, hourFields, hourOf, Run, runFields, runsOf, read, refused, afterRuns, afterRunBlock, runsAt, afterHourBlock, hourIn, hourAhead, scedSum, errorOf, hourGroup, errorAnswer, intervalsOf, intervalsIn, Bounded}
 use Rattle.hour.specs.declared.read.Intervals.{Intervals}
 use Rattle.hour.specs.declared.read.Intervals.the-variants as intervals
 use Rattle.hour.specs.declared.read.ReadHour.{ReadHour}
 use Rattle.hour.specs.declared.read.ReadHour.the-variants as read-hour
-use Rattle.block.proofs.Shifted.{movedBlock, movedReading, reading-moved, reading-within}
+use Rattle.block.proofs.Shifted.{movedFault, movedBlock, movedReading, reading-moved, reading-within}
 use Rattle.block.proofs.Readings.{Within, values-within, values-bounded, block-ends, block-values}
-use Rattle.hour.proofs.Runs.{sumSize, runs-length, runs-bounded, runs-within}
+use Rattle.hour.proofs.Runs.{sumSize, intervalsPosition, runs-length, runs-bounded, runs-within}
 
 -- ---- the values of the hour's own lines
 
@@ -162,7 +162,7 @@ answerAtEnd text h sum (block.Refused found) = read-hour.Refused (refusalOf text
 answerAtEnd text h sum (block.Read stop) = read-hour.Error (hourGroup h) (hourAhead h -ℤ floorDiv sum (natAbs (h .runs)) +ℤ h .shed)
 
 abbrev pub answerOf : List ℕ → Hour → ℕ → Intervals → ReadHour
-answerOf text h at (intervals.Refused found) = read-hour.Refused (refusalOf text (moved at found))
+answerOf text h at (intervals.Refused found) = read-hour.Refused (refusalOf text (movedFault at found))
 answerOf text h at (intervals.Sum sum next) = answerAtEnd text h sum (endAt text (at + next))
 
 reading-from : {A : Type 0} (fields : List (Field A)) (text : List ℕ) (at : ℕ) → readFields fields text at ≡ movedReading at (readFields fields (drop at text) 0)
@@ -199,7 +199,7 @@ module _
   rest-read : given ≡ intervalsIn runs (drop next text)
   rest-read = rw (take-all (length text - next) (drop next text) (omega (arith, length-drop next text))) at reads
 
-  pub given-within : next + intervalFault given .at ≤ length text
+  pub given-within : next + intervalsPosition given ≤ length text
   given-within = rw rest-read (omega (arith, inside, length-drop next text, runs-within runs (drop next text)))
 
   pub runs-answers : (found : Intervals) → given ≡ found → answerOf text (hourOf values) next found ≡ errorAnswer (runsAt text (hourOf values) next)

@@ -14,7 +14,7 @@ use Rattle.block.specs.Block.{Reading, readFields, repeated, numberFields, keys
 use Rattle.text.specs.declared.refusal.Fault.{Fault}
 use Rattle.answers.specs.declared.Block.{Block}
 use Rattle.answers.specs.declared.Block.the-variants as block
-use Rattle.hour.specs.Hour.{runFields, runOf, runsOf, scedReserve, scedSum, intervalsOf, intervalsIn, intervalFault, Bounded}
+use Rattle.hour.specs.Hour.{runFields, runOf, runsOf, scedReserve, scedSum, intervalsOf, intervalsIn, Bounded}
 use Rattle.hour.specs.declared.read.Intervals.{Intervals}
 use Rattle.hour.specs.declared.read.Intervals.the-variants as intervals
 use Rattle.block.proofs.Shifted.{blockPosition, reading-within}
@@ -214,13 +214,18 @@ runs-bounded (suc n) part at = go (readFields runFields part at .end) refl (runs
         (more (scedReserve (runOf (readFields runFields part at .values))) (intervalsFrom n part next) (sced-bounded (readFields runFields part at .values) (run-bounded part at next e)) (again next))
     go (block.Refused found) e again = rw (run-refused n part at found e) (omega arith)
 
-pub runs-within : (n : ℕ) (part : List ℕ) → intervalFault (intervalsIn n part) .at ≤ length part
+-- where reading the runs stopped in their part
+abbrev pub intervalsPosition : Intervals → ℕ
+intervalsPosition (intervals.Sum sum next) = next
+intervalsPosition (intervals.Refused found) = found .at
+
+pub runs-within : (n : ℕ) (part : List ℕ) → intervalsPosition (intervalsIn n part) ≤ length part
 runs-within n part = go (readFields (repeated n runFields) part 0) (reading-within part (repeated n runFields) 0 (omega arith))
   where
-    go : (reading : Reading ℤ) → blockPosition (reading .end) ≤ length part → intervalFault (intervalsOf n reading) .at ≤ length part
+    go : (reading : Reading ℤ) → blockPosition (reading .end) ≤ length part → intervalsPosition (intervalsOf n reading) ≤ length part
     go reading h = by-end (reading .end) refl h
       where
-        by-end : (end : Block) → reading .end ≡ end → blockPosition end ≤ length part → intervalFault (intervalsOf n reading) .at ≤ length part
+        by-end : (end : Block) → reading .end ≡ end → blockPosition end ≤ length part → intervalsPosition (intervalsOf n reading) ≤ length part
         by-end (block.Read next) e h = rw e h
         by-end (block.Refused found) e h = rw e h
 

@@ -1,5 +1,5 @@
 -- Document 01, "History to curves": one hour's text, its reserves, and the reserve error.
-use Prim.Native.Nat.{ℕ, zero, suc, _+_, _≤_}
+use Prim.Native.Nat.{ℕ, zero, suc, _≤_}
 use mathlib.Core.List.{List, [], _∷_}
 use lib.Dec.{ltb}
 use lib.IntN.{ℤ, pos, negℤ, natAbs, _+ℤ_, _-ℤ_}
@@ -8,11 +8,10 @@ use Rattle.integer.specs.Floor.{floorDiv}
 use Rattle.text.specs.Choice.{pick}
 use Rattle.text.specs.Bytes.{bytes}
 use Rattle.text.specs.Refusal.{refusalOf}
-use Rattle.answers.specs.Answers.{fault, endAt}
+use Rattle.answers.specs.Answers.{endAt}
 use Rattle.line.specs.Field.{Field}
 use Rattle.number.specs.Field.{numberField}
 use Rattle.block.specs.Block.{Reading, readFields, repeated, value}
-use Rattle.text.specs.declared.refusal.Fault.{Fault}
 use Rattle.text.specs.declared.refusal.Refusal.{Refusal}
 use Rattle.answers.specs.declared.Block.{Block}
 use Rattle.answers.specs.declared.Block.the-variants as block
@@ -193,15 +192,6 @@ intervalsOf runs reading = go (reading .end)
 
 abbrev pub intervalsIn : ℕ → List ℕ → Intervals
 intervalsIn runs part = intervalsOf runs (readFields (repeated runs runFields) part 0)
-
--- the fault of refused runs; 0 stands for no refusal
-abbrev pub intervalFault : Intervals → Fault
-intervalFault (intervals.Sum sum next) = fault 0 next
-intervalFault (intervals.Refused found) = found
-
--- a fault of a part, in the text where the part starts at a position
-abbrev pub moved : ℕ → Fault → Fault
-moved start found = fault (found .number) (start + found .at)
 
 -- values none of which is beyond a bound: what the sums need to fit a machine number
 abbrev pub Bounded : ℕ → List ℤ → Type 0

@@ -1,13 +1,12 @@
 // The SCED runs of an hour, in the part of its text after the `runs` line.
 ghost use mathlib.Core.Path.{_≡_};
-ghost use Prim.Native.Nat.{_≤_, _<_, _+_, _^_};
+ghost use Prim.Native.Nat.{_≤_};
 ghost use Rattle.block.specs.Block.{readFields};
-ghost use Rattle.hour.specs.Hour.{runFields, intervalsOf, intervalsIn, intervalFault, moved};
+ghost use Rattle.hour.specs.Hour.{runFields, intervalsOf, intervalsIn};
 use crate::read::Intervals;
 use crate::reserve::sced_reserve;
 use answers::Block;
 use block::read_block;
-use text::refusal::Fault;
 
 // One run: its reserve and where its lines end.
 fn run_at(part: &[u8], at: usize) -> Intervals
@@ -55,21 +54,4 @@ pub(crate) fn read_intervals(part: &[u8], runs: u64) -> Intervals
         i += 1;
     }
     Intervals::Sum { sum, next }
-}
-
-// The fault of refused runs, in the hour's text, where their part starts at a position.
-pub(crate) fn interval_fault(read: Intervals, start: usize) -> Fault
-    requires { ⌜ start + intervalFault read .at < 2 ^ 64 ⌝ }
-    ensures { λ r. ⌜ r ≡ moved start (intervalFault read) ⌝ }
-{
-    match read {
-        Intervals::Refused(fault) => Fault {
-            number: fault.number,
-            at: start + fault.at,
-        },
-        Intervals::Sum { sum: _, next } => Fault {
-            number: 0,
-            at: start + next,
-        },
-    }
 }

@@ -7,7 +7,6 @@ ghost use Rattle.integer.specs.Floor.{floorDiv};
 ghost use Rattle.block.specs.Block.{value};
 ghost use Rattle.hour.specs.Hour.{hourIn, hourOf, runsAt, hourAhead, hourGroup, errorAnswer, Bounded};
 ghost use Rattle.hour.specs.declared.read.ReadHour.the-variants as read-hour;
-use crate::intervals::interval_fault;
 use crate::intervals::read_intervals;
 use crate::reserve::reserve_error;
 use answers::Block;
@@ -70,19 +69,24 @@ fn error_of(v: &[i64], runs: u64, sum: i64) -> ReadHour
     }
 }
 
-// An hour whose own lines were read: its runs and the end of the text. The lines of the runs are a part of the text.
+// An hour whose own lines were read: its runs and the end of the text. The lines of the runs are a part of the text, where positions are moved.
 fn runs_at(text: &[u8], next: usize, v: &[i64]) -> ReadHour
     requires { ⌜ (length (now text) ≤ 65536) × (next ≤ length (now text)) × (length (now v) ≡ 13) × (natAbs (value (now v) 12) ≤ 60) × Bounded 100000000 (now v) ⌝ }
     ensures { λ r. ⌜ r ≡ errorAnswer (runsAt (now (text .entry)) (hourOf (now (v .entry))) next) ⌝ }
 {
     let runs = magnitude_at(v, 12);
-    let i = read_intervals(&text[next..], runs);
-    let Intervals::Sum { sum, next: length } = i else {
-        return ReadHour::Refused(refusal_of(text, interval_fault(i, next)));
-    };
-    match end_at(text, next + length) {
-        Block::Refused(fault) => ReadHour::Refused(refusal_of(text, fault)),
-        Block::Read { next: _ } => error_of(v, runs, sum),
+    match read_intervals(&text[next..], runs) {
+        Intervals::Refused(fault) => {
+            let found = Fault {
+                number: fault.number,
+                at: next + fault.at,
+            };
+            ReadHour::Refused(refusal_of(text, found))
+        }
+        Intervals::Sum { sum, next: length } => match end_at(text, next + length) {
+            Block::Refused(fault) => ReadHour::Refused(refusal_of(text, fault)),
+            Block::Read { next: _ } => error_of(v, runs, sum),
+        },
     }
 }
 
