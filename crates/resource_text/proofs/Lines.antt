@@ -1,6 +1,6 @@
 -- Laws on the lines of a resource: a block that was read into places, and what the readers' answers come to.
-use Prim.Native.Nat.{ℕ, suc}
-use mathlib.Core.Path.{_≡_, refl, ap, sym, _∙_}
+use Prim.Native.Nat.{ℕ}
+use mathlib.Core.Path.{_≡_, refl, sym, _∙_}
 use mathlib.Core.List.{List, [], _∷_, _++_, append-nil}
 use lib.IntN.{ℤ, pos, negℤ}
 use lib.ListN.{length, replicate, length-replicate}
@@ -8,28 +8,16 @@ use lib.Seq.{drop-length}
 use Rattle.text.specs.Bytes.{bytes}
 use Rattle.piece.specs.Piece.{piecesFrom}
 use Rattle.text.specs.declared.refusal.Fault.{Fault}
-use Rattle.line.specs.Field.{Field, Answer, got, refused, fieldAt}
+use Rattle.line.specs.Field.{Field, Answer, got, refused}
 use Rattle.word.specs.Word.{wordAnswer}
 use Rattle.answers.specs.declared.WordLine.{WordLine}
 use Rattle.answers.specs.declared.WordLine.the-variants as word-line
-use Rattle.block.specs.Block.{andThen, readFields, numberFields, placedFields, BlockRead}
+use Rattle.block.specs.Block.{readFields, numberFields, placedFields, BlockRead}
+use Rattle.block.proofs.Readings.{reading-length}
 use Rattle.answers.specs.declared.Block.{Block}
 use Rattle.answers.specs.declared.Block.the-variants as block
 use Rattle.resource_text.specs.Resource.{generatorFields, controllableFields, loadFields, blockAs, ofBlock, afterAnswer}
 use Rattle.resource_text.proofs.Small.{EachSmall, AllSmall, values-small, laid-small}
-
--- a block that was read has as many values as lines
-values-counted : {A : Type 0} (fields : List (Field A)) (text : List ℕ) (at : ℕ) {next : ℕ} → readFields fields text at .end ≡ block.Read next → length (readFields fields text at .values) ≡ length fields
-unfolding readFields
-values-counted [] text at e = refl
-values-counted {A} (field ∷ fields) text at {next} e = go (fieldAt field text at) e (λ after. values-counted fields text after)
-  where
-    go :
-        (a : Answer A) → andThen a (λ after. readFields fields text after) .end ≡ block.Read next →
-        ((after : ℕ) → readFields fields text after .end ≡ block.Read next → length (readFields fields text after .values) ≡ length fields) →
-        length (andThen a (λ after. readFields fields text after) .values) ≡ suc (length fields)
-    go (got found after) e others = ap suc (others after e)
-    go (refused fault) e others = cc
 
 -- ---- schemas as the code hands them over
 
@@ -72,9 +60,9 @@ module _
 
   -- its places hold the values
   pub block-filled : {next : ℕ} → ended ≡ block.Read next → after ≡ readFields fields text at .values
-  block-filled told =
+  block-filled {next} told =
       let n : length (readFields fields text at .values) ≡ length (places fields) =
-      values-counted fields text at (sym block-ended ∙ told) ∙ sym (length-replicate (length fields) (pos 0)) in
+      reading-length fields text at next (sym block-ended ∙ told) ∙ sym (length-replicate (length fields) (pos 0)) in
       read .filled ∙ rw (schema .same, n, drop-length, append-nil)
 
   -- a resource made of its places, if its lines were read

@@ -30,13 +30,7 @@ kindField = wordField (bytes "kind=") (bytes "gen\nwind\nirr\nnuke\nclr\nnclr\n"
 abbrev pub statusField : Field ℕ
 statusField = wordField (bytes "status=") (bytes "ON\nOFF\nOFFNS\nONTEST\nSTARTUP\nSHUTDOWN\nOUT\n")
 
--- a word by its place in the list
-abbrev pub kindOf : ℕ → Kind
-kindOf zero = kind.Gen
-kindOf (suc zero) = kind.Wind
-kindOf (suc (suc zero)) = kind.Irr
-kindOf (suc (suc (suc n))) = kind.Nuke
-
+-- a status by its place in the list
 abbrev pub statusOf : ℕ → Status
 statusOf zero = status.On
 statusOf (suc zero) = status.Off

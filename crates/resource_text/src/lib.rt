@@ -7,8 +7,8 @@ ghost use Rattle.resource_text.specs.Resource.{ofKind, resourceAt, lines
 use crate::kinds::controllable_at;
 use crate::kinds::generator_at;
 use crate::kinds::load_at;
-use crate::made::kind_of;
 use answers::WordLine;
+use resource::Kind;
 use resource::Resource;
 use text::refusal::Fault;
 use word::word_at;
@@ -23,13 +23,14 @@ pub enum ResourceLines {
 fn of_kind(text: &[u8], index: usize, at: usize) -> ResourceLines
     ensures { λ r. ⌜ linesAnswer r ≡ ofKind (now (text .entry)) index at ⌝ }
 {
-    if index < 4 {
-        return generator_at(text, at, kind_of(index));
+    match index {
+        0 => generator_at(text, at, Kind::Gen),
+        1 => generator_at(text, at, Kind::Wind),
+        2 => generator_at(text, at, Kind::Irr),
+        3 => generator_at(text, at, Kind::Nuke),
+        4 => controllable_at(text, at),
+        _ => load_at(text, at),
     }
-    if index == 4 {
-        return controllable_at(text, at);
-    }
-    load_at(text, at)
 }
 
 // The lines of one resource after its id.

@@ -1,10 +1,10 @@
-// A resource made of its words, by their place in the list, and of its values.
+// A resource made of its status, by its place in the list of words, and of its values.
 ghost use mathlib.Core.Path.{_≡_};
 ghost use Prim.Native.Nat.{ℕ, _≤_, _<_};
 ghost use lib.IntN.{natAbs};
 ghost use lib.ListN.{length};
 ghost use Rattle.block.specs.Block.{value};
-ghost use Rattle.resource_text.specs.Resource.{kindOf, statusOf, generatorOf, controllableOf, loadOf};
+ghost use Rattle.resource_text.specs.Resource.{statusOf, generatorOf, controllableOf, loadOf};
 use resource::Controllable;
 use resource::Generator;
 use resource::Kind;
@@ -20,18 +20,7 @@ fn number(v: &[i64], place: usize) -> i32
     v[place] as i32
 }
 
-// A kind and a status by their place in the list of words.
-pub(crate) fn kind_of(index: usize) -> Kind
-    ensures { λ r. ⌜ r ≡ kindOf index ⌝ }
-{
-    match index {
-        0 => Kind::Gen,
-        1 => Kind::Wind,
-        2 => Kind::Irr,
-        _ => Kind::Nuke,
-    }
-}
-
+// A status by its place in the list of words.
 pub(crate) fn status_of(index: usize) -> Status
     ensures { λ r. ⌜ r ≡ statusOf index ⌝ }
 {
