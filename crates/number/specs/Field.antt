@@ -3,9 +3,8 @@ use mathlib.Core.List.{List}
 use Prim.Native.Nat.{ℕ}
 use lib.IntN.{ℤ}
 use Rattle.line.specs.Field.{Judged, good, bad, Field, Answer, got, refused}
-use Rattle.number.specs.Number.{numberIn, writtenNumber}
-use Rattle.number.specs.declared.Number.{Number}
-use Rattle.number.specs.declared.Number.the-variants as number
+use Rattle.number.specs.Number.{Number, numberIn, writtenNumber}
+use Rattle.number.specs.Number as number
 use Rattle.answers.specs.declared.NumberLine.{NumberLine}
 use Rattle.answers.specs.declared.NumberLine.the-variants as number-line
 

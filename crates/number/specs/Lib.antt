@@ -1,4 +1,4 @@
 -- Document 01, "Texts": numbers.
 pub mod Number
-pub mod Digits
+pub mod Written
 pub mod Field

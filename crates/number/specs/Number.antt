@@ -7,8 +7,6 @@ use lib.Dec.{eqb, ltb, leb}
 use lib.IntN.{ℤ, pos, negsuc}
 use lib.Signed.{leZ}
 use Rattle.text.specs.Choice.{pick}
-use Rattle.number.specs.declared.Number.{Number}
-use Rattle.number.specs.declared.Number.the-variants as number
 
 -- `0` to `9`
 abbrev pub isDigit : ℕ → Bool
@@ -48,12 +46,17 @@ unfoldable pub numberOf : List ℕ → Option ℤ
 numberOf [] = none
 numberOf (byte ∷ rest) = pick (eqb byte 45) (negative (naturalOf rest)) (positive (naturalOf (byte ∷ rest)))
 
--- a well written number outside its range is refused by 7, a badly written one by 6
+-- what the bytes of a value say: a well written number outside its range is refused by 7, a badly written one by 6
+pub data Number : Type 0 where
+  Value : ℤ → Number
+  Outside : Number
+  Malformed : Number
+
 abbrev pub inRange : ℤ → ℤ → ℤ → Number
-inRange low high z = pick (leZ low z && leZ z high) (number.Value z) number.Outside
+inRange low high z = pick (leZ low z && leZ z high) (Value z) Outside
 
 abbrev pub ranged : ℤ → ℤ → Option ℤ → Number
-ranged low high none = number.Malformed
+ranged low high none = Malformed
 ranged low high (some z) = inRange low high z
 
 abbrev pub numberIn : ℤ → ℤ → List ℕ → Number

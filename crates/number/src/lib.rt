@@ -1,123 +1,86 @@
 // Numbers: decimal digits, `-` in front if below zero, no leading zero, no `-0`, however many digits.
-mod natural;
+mod written;
 
 ghost use mathlib.Core.Path.{_≡_};
-ghost use Prim.Native.Nat.{_≤_, _<_, _-_};
-ghost use lib.IntN.{negsuc};
-ghost use lib.ListN.{length};
-ghost use Rattle.number.specs.Number.{naturalOf, positive, negative, inRange, ranged, numberIn};
-ghost use Rattle.line.specs.Field.{fieldAt, judged};
-ghost use Rattle.number.specs.Field.{numberField, numberAnswer, judgedNumber};
-use crate::natural::natural_at;
-use crate::natural::natural_of;
+ghost use Prim.Native.Nat.{_≤_};
+ghost use lib.ListN.{drop};
+ghost use Rattle.line.specs.Line.{lineAt};
+ghost use Rattle.line.specs.Field.{fieldAt};
+ghost use Rattle.number.specs.Field.{numberField, numberAnswer};
+ghost use Rattle.number.specs.Written.{signed, isOutside, afterKey, noNumber};
+use crate::written::Written;
+use crate::written::number_line;
 use answers::Line;
 use answers::NumberLine;
 use answers::line_fault;
+use line::begins_with;
 use line::line_at;
 use piece::part;
 use text::refusal::Fault;
 
-// What the bytes of a value say.
-pub enum Number {
-    Value(i64),
-    // Well written, and outside the range (7).
-    Outside,
-    // Badly written (6).
-    Malformed,
-}
-
-// A number below zero, from its magnitude.
-fn below_zero(magnitude: u64) -> i64
-    requires { ⌜ (1 ≤ magnitude) × (magnitude ≤ 9223372036854775808) ⌝ }
-    ensures { λ r. ⌜ r ≡ negsuc (magnitude - 1) ⌝ }
+// A number from its sign and its distance.
+fn signed(negative: bool, distance: u64) -> i64
+    requires { ⌜ distance ≤ 9223372036854775807 ⌝ }
+    ensures { λ r. ⌜ r ≡ signed negative distance ⌝ }
 {
-    -1 - ((magnitude - 1) as i64)
+    let value = distance as i64;
+    if negative {
+        return -1 - value;
+    }
+    value
 }
 
-// A number held against a range.
-fn ranged(z: i64, low: i64, high: i64) -> Number
-    ensures { λ r. ⌜ r ≡ inRange low high z ⌝ }
+// Whether a number is outside a range; one that no machine number equals is outside every range.
+fn is_outside(n: Written, low: i64, high: i64) -> bool
+    ensures { λ r. ⌜ r ≡ isOutside low high (signed (n .negative) (n .distance)) ⌝ }
 {
-    if z < low {
-        return Number::Outside;
+    let distance = n.distance;
+    if 9223372036854775807 < distance {
+        return true;
     }
-    if high < z {
-        return Number::Outside;
+    let value = signed(n.negative, distance);
+    if value < low {
+        return true;
     }
-    Number::Value(z)
+    high < value
 }
 
-// Digits read as a number from low to high.
-fn natural_in(digits: &[u8], low: i64, high: i64) -> Number
-    requires { ⌜ 0 < length (now digits) ⌝ }
-    ensures { λ r. ⌜ r ≡ ranged low high (positive (naturalOf (now (digits .entry)))) ⌝ }
+// What follows a key in the line that starts at a position; no bytes where the line does not begin with the key.
+fn after_key<'a>(text: &'a [u8], at: usize, key: &[u8]) -> &'a [u8]
+    ensures { λ r. ⌜ now r ≡ afterKey (now (key .entry)) (drop at (now (text .entry))) ⌝ }
 {
-    let n = natural_of(digits);
-    if n.length < digits.len() {
-        return Number::Malformed;
+    let line = part(text, at, text.len());
+    if begins_with(line, key) {
+        return part(line, key.len(), line.len());
     }
-    let magnitude = n.value;
-    if 9223372036854775807 < magnitude {
-        return Number::Outside;
-    }
-    ranged(magnitude as i64, low, high)
+    &line[..0]
 }
 
-// Digits after `-` read as a number from low to high.
-fn negative_in(digits: &[u8], low: i64, high: i64) -> Number
-    ensures { λ r. ⌜ r ≡ ranged low high (negative (naturalOf (now (digits .entry)))) ⌝ }
+// The refusal of a line that holds no number: the line's own (3, 4, 5), or else 6.
+fn no_number(text: &[u8], at: usize, key: &[u8]) -> NumberLine
+    ensures { λ r. ⌜ numberAnswer r ≡ noNumber at (lineAt (now (key .entry)) (now (text .entry)) at) ⌝ }
 {
-    let n = natural_of(digits);
-    if n.length < digits.len() {
-        return Number::Malformed;
-    }
-    let magnitude = n.value;
-    if magnitude == 0 {
-        return Number::Malformed;
-    }
-    if 9223372036854775808 < magnitude {
-        return Number::Outside;
-    }
-    ranged(below_zero(magnitude), low, high)
+    let l = line_at(text, at, key);
+    let Line::Value { .. } = l else {
+        return NumberLine::Refused(line_fault(l));
+    };
+    NumberLine::Refused(Fault { number: 6, at })
 }
 
-// A value's bytes read as a number from low to high.
-fn number_in(value: &[u8], low: i64, high: i64) -> Number
-    ensures { λ r. ⌜ r ≡ numberIn low high (now (value .entry)) ⌝ }
-{
-    if value.len() == 0 {
-        return Number::Malformed;
-    }
-    if value[0] == 45 {
-        return negative_in(part(value, 1, value.len()), low, high);
-    }
-    natural_in(value, low, high)
-}
-
-// What a line says whose value is read.
-fn number_answer(number: Number, at: usize, next: usize) -> NumberLine
-    ensures { λ r. ⌜ numberAnswer r ≡ judged at next (judgedNumber number) ⌝ }
-{
-    match number {
-        Number::Value(value) => NumberLine::Value { value, next },
-        Number::Outside => NumberLine::Refused(Fault { number: 7, at }),
-        Number::Malformed => NumberLine::Refused(Fault { number: 6, at }),
-    }
-}
-
-// The line due at a position, read as a number from low to high. Most lines hold a natural number, which one look at each byte tells; any other line is
-// looked at part by part.
+// The line due at a position, read as a number from low to high. Each byte of a number is looked at once.
 pub fn number_at(text: &[u8], at: usize, key: &[u8], low: i64, high: i64) -> NumberLine
     ensures { λ r. ⌜ numberAnswer r ≡ fieldAt (numberField (now (key .entry)) low high) (now (text .entry)) at ⌝ }
 {
-    let n = natural_at(part(text, at, text.len()), key);
+    let n = number_line(after_key(text, at, key));
     let length = n.length;
-    if 0 < length {
-        return number_answer(ranged(n.value as i64, low, high), at, at + length + 1);
+    if length == 0 {
+        return no_number(text, at, key);
     }
-    let l = line_at(text, at, key);
-    let Line::Value { start, end, next } = l else {
-        return NumberLine::Refused(line_fault(l));
-    };
-    number_answer(number_in(part(text, start, end), low, high), at, next)
+    if is_outside(n, low, high) {
+        return NumberLine::Refused(Fault { number: 7, at });
+    }
+    NumberLine::Value {
+        value: signed(n.negative, n.distance),
+        next: at + key.len() + length + 1,
+    }
 }

@@ -19,7 +19,7 @@ use Rattle.writer.specs.Promises.{OneLine, Sound, Fitting, AllSound, non
 use Rattle.text.specs.declared.refusal.Fault.{Fault}
 use Rattle.answers.specs.declared.Line.{Line}
 use Rattle.answers.specs.declared.Line.the-variants as line
-use Rattle.number.specs.declared.Number.the-variants as number
+use Rattle.number.specs.Number as number
 use Rattle.answers.specs.declared.Block.the-variants as block
 use Rattle.text.proofs.Choices.{chosen, passed-over}
 use Rattle.answers.specs.Answers.{fault}

@@ -20,7 +20,7 @@ use Rattle.piece.specs.Piece.{piecesFrom}
 use Rattle.word.specs.Word.{wordsOf, isWord, wordAmong, wordIn, judgedWord, withoutLast, writtenWord}
 use Rattle.id.specs.Id.{isIdByte, allIdBytes, isId}
 use Rattle.writer.specs.Promises.{OneLine, AllSound, none-sound, one-sound, NumbersAreSound, NumbersInRangeFit, WordsAreSound, WordsFit, IdsAreSound, IdsFit}
-use Rattle.number.specs.declared.Number.the-variants as number
+use Rattle.number.specs.Number as number
 use Rattle.word.specs.declared.Word.{Word}
 use Rattle.word.specs.declared.Word.the-variants as word
 use Rattle.text.proofs.Choices.{is-true, and-left, and-right, chosen}

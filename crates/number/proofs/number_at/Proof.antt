@@ -1,109 +1,113 @@
--- A natural number is a law; else a refused line hands its fault on, and a value is judged as the number reader says.
-use mathlib.Core.Path.{refl, ap, _∙_}
-use lib.ListN.{length}
-use mir.Syntax.{w64}
-use mir.Facts.{toZ-ofZ, toZ-pos}
-use Rattle.line.specs.Field.{refused}
-use Rattle.line.proofs.Fields.{field-refused}
-use Rattle.number.specs.Field.{numberField}
-use Rattle.number.proofs.Fields.{number-value}
-use Rattle.number.proofs.Naturals.{number-natural, part-length}
+-- What follows the key is no number, a number outside its range, or a number in it: each is a law.
+use mathlib.Core.Path.{sym, _∙_}
 use native.Mathlib.Omega.{arith}
+use mir.Facts.{toZ-ofZ}
+use Rattle.number.proofs.Numbers.{signed-fits, near}
+use Rattle.number.proofs.Fields.{number-missing, number-within, number-outside, number-inside}
 use Rattle.number.proofs.number_at.Statement.{statement}
 use Rattle.number.proofs.number_at.Tie as tie
 
-part-requires : tie.Need-part-requires
-part-requires c κs = tt
+after-key-requires : tie.Need-after-key-requires
+after-key-requires c κs = tt
 
-natural-at-requires : tie.Need-natural-at-requires
-natural-at-requires c κs = tt
+number-line-requires : tie.Need-number-line-requires
+number-line-requires c κs = tt
 
-cast-ranged : tie.Need-cast-ranged
-cast-ranged c = record { sfits = omega (arith, c .before .before .natural-at .ensures (c .before .if1 .taken) .5) }
-
-ranged-requires : tie.Need-ranged-requires
-ranged-requires c κs = tt
-
-add-number-answer : tie.Need-add-number-answer
-add-number-answer c =
-    let n = c .before .before .before in
-    let a = n .before .before .before .before .args in
-    omega (arith, n .natural-at .ensures (c .before .before .if1 .taken) .0, ap length (n .before .part .ensures), part-length (a .text .now) (a .at))
-
-add-number-answer-2 : tie.Need-add-number-answer-2
-add-number-answer-2 c =
-    let n = c .before .before .before in
-    let a = n .before .before .before .before .args in
-    omega (arith, n .natural-at .ensures (c .before .before .if1 .taken) .0, ap length (n .before .part .ensures), part-length (a .text .now) (a .at))
-
-number-answer-requires : tie.Need-number-answer-requires
-number-answer-requires c κs = tt
+no-number-requires : tie.Need-no-number-requires
+no-number-requires c κs = tt
 
 returns : tie.Need-returns
 returns c =
-    let r = c .before in
-    let n = r .before .before .before in
-    let s = n .before .before .before .before in
-    let a = s .args in
-    let under = n .natural-at .ensures (r .before .before .if1 .taken) in
-    let is = rw (toZ-ofZ (s .fits .low), toZ-ofZ (s .fits .high), toZ-pos w64 {n = n .natural-at .result .value} (omega arith)) at (r .ranged .ensures) in
-    c .number-answer .ensures ∙ number-natural (a .key .now) (a .text .now) (a .at) (n .natural-at .result .length) (n .natural-at .result .value) (a .low) (a .high) (n .before .part .ensures) under is
+    let n = c .before .before in
+    let a = n .before .before .before .before .args in
+    let r = n .number-line .result in
+    c .no-number .ensures
+    ∙ number-missing (a .key .now) (a .text .now) (a .at) (n .before .after-key .ensures) (r .negative) (r .distance) (r .length) (n .number-line .ensures) (a .low) (a .high) (c .before .if1 .taken)
 
-line-at-requires : tie.Need-line-at-requires
-line-at-requires c κs = tt
-
-enum-known-l : tie.Need-enum-known-l
-enum-known-l c = omega arith
-
-enum-told : tie.Need-enum-told
-enum-told c = omega arith
-
-line-fault-requires : tie.Need-line-fault-requires
-line-fault-requires c κs = tt
+is-outside-requires : tie.Need-is-outside-requires
+is-outside-requires c κs = tt
 
 returns-2 : tie.Need-returns-2
 returns-2 c =
-    let l = c .before .before .before in
-    let a = l .before .before .before .before .before .before .args in
-    ap refused (c .line-fault .ensures) ∙ field-refused (numberField (a .key .now) (a .low) (a .high)) (a .text .now) (a .at) (l .line-at .ensures) (c .before .enum-told .given .1)
+    let n = c .before .before .before in
+    let s = n .before .before .before .before in
+    let a = s .args in
+    let r = n .number-line .result in
+    number-outside
+    (a .key .now)
+    (a .text .now)
+    (a .at)
+    (n .before .after-key .ensures)
+    (r .negative)
+    (r .distance)
+    (r .length)
+    (n .number-line .ensures)
+    (c .before .before .if1 .left)
+    (a .low)
+    (a .high)
+    (s .fits .low)
+    (s .fits .high)
+    (rw (toZ-ofZ (s .fits .low), toZ-ofZ (s .fits .high)) at (sym (c .before .is-outside .ensures) ∙ c .if2 .taken))
 
-part-requires-2 : tie.Need-part-requires-2
-part-requires-2 c κs = tt
+signed-requires : tie.Need-signed-requires
+signed-requires c κs =
+    let n = c .before .before .before in
+    let s = n .before .before .before .before in
+    let a = s .args in
+    let r = n .number-line .result in
+    near (a .low) (a .high) (s .fits .low) (s .fits .high) (r .negative) (r .distance) (rw (toZ-ofZ (s .fits .low), toZ-ofZ (s .fits .high)) at (sym (c .before .is-outside .ensures) ∙ c .if2 .left))
 
-number-in-requires : tie.Need-number-in-requires
-number-in-requires c κs = tt
+add-t16 : tie.Need-add-t16
+add-t16 c =
+    let n = c .before .before .before .before in
+    let a = n .before .before .before .before .args in
+    let r = n .number-line .result in
+    let h = number-within (a .key .now) (a .text .now) (a .at) (n .before .after-key .ensures) (r .negative) (r .distance) (r .length) (n .number-line .ensures) (c .before .before .before .if1 .left) in
+    omega arith
 
-number-answer-requires-2 : tie.Need-number-answer-requires-2
-number-answer-requires-2 c κs = tt
+add-t15 : tie.Need-add-t15
+add-t15 c = omega (arith, add-t16 c)
+
+add-t14 : tie.Need-add-t14
+add-t14 c = omega (arith, add-t16 c)
 
 returns-3 : tie.Need-returns-3
 returns-3 c =
-    let p = c .before .before in
-    let m = p .before .before in
-    let l = m .before .before in
-    let s = l .before .before .before .before .before .before in
+    let n = c .before .before .before .before in
+    let s = n .before .before .before .before in
     let a = s .args in
-    let is = rw (toZ-ofZ (s .fits .low), toZ-ofZ (s .fits .high)) at (c .before .number-in .ensures) in
-    c .number-answer2 .ensures ∙ number-value (a .key .now) (a .text .now) (a .at) (a .low) (a .high) (l .line-at .ensures) (m .l .given .1) (p .part2 .ensures) is refl
+    let r = n .number-line .result in
+    let o = rw (toZ-ofZ (s .fits .low), toZ-ofZ (s .fits .high)) at (sym (c .before .before .is-outside .ensures) ∙ c .before .if2 .left) in
+    let small = near (a .low) (a .high) (s .fits .low) (s .fits .high) (r .negative) (r .distance) o in
+    rw (c .signed .ensures, toZ-ofZ (signed-fits (r .negative) (r .distance) (omega arith)))
+    (number-inside
+    (a .key .now)
+    (a .text .now)
+    (a .at)
+    (n .before .after-key .ensures)
+    (r .negative)
+    (r .distance)
+    (r .length)
+    (n .number-line .ensures)
+    (c .before .before .before .if1 .left)
+    (a .low)
+    (a .high)
+    (s .fits .low)
+    (s .fits .high)
+    o)
 
 pub number-at-spec : {M : Type 1} → statement M
 number-at-spec =
     tie.close
     (tie.spec
-    part-requires
-    natural-at-requires
-    cast-ranged
-    ranged-requires
-    add-number-answer
-    add-number-answer-2
-    number-answer-requires
+    after-key-requires
+    number-line-requires
+    no-number-requires
     returns
-    line-at-requires
-    enum-known-l
-    enum-told
-    line-fault-requires
+    is-outside-requires
     returns-2
-    part-requires-2
-    number-in-requires
-    number-answer-requires-2
+    signed-requires
+    add-t14
+    add-t15
+    add-t16
     returns-3)
