@@ -11,7 +11,7 @@ use Rattle.hour.specs.declared.read.ReadHour.the-variants as read-hour
 use Rattle.record.specs.declared.Record.{Record}
 use Rattle.hour.specs.Hour.{HourAnswer, read, refused, hourIn, hourGroup, errorAnswer}
 use Rattle.hour.proofs.Hours.{hour-group-below}
-use Rattle.settling.specs.Possible.{allPossible}
+use Rattle.possible.specs.Possible.{allPossible}
 use Rattle.history.specs.Booking.{bookError, bookHour, booked}
 
 -- ---- booking by cases

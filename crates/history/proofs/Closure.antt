@@ -21,10 +21,10 @@ use Rattle.record.specs.declared.Record.{Record}
 use Rattle.history.specs.declared.Booking.{Booking}
 use Rattle.hour.specs.Hour.{HourAnswer, read, refused, hourIn, hourGroup, errorOf}
 use Rattle.record.specs.Record.{fresh, groupAt, withGroup}
-use Rattle.settling.specs.Possible.{squaresAround, possible, allPossible}
+use Rattle.possible.specs.Possible.{squaresAround, possible, allPossible}
 use Rattle.history.specs.Booking.{withError, kept, bookError, bookHour, booked}
 use Rattle.history.specs.Promises.{bookedAll, BookedRecordsArePossible}
-use Rattle.settling.proofs.PossibleGroups.{and-split, Possible, possible-is, is-possible, possible-at}
+use Rattle.possible.proofs.PossibleGroups.{and-split, Possible, possible-is, is-possible, possible-at}
 
 -- one more error within the bounds
 possible-more : (g : Group) (e : ℤ) → Possible g → g .count < 1000 → natAbs e ≤ 20000000 → Possible (withError g e)

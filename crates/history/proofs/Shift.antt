@@ -21,7 +21,7 @@ use Rattle.record.specs.declared.Group.{Group}
 use Rattle.record.specs.declared.Record.{Record}
 use Rattle.hour.specs.Hour.{Hour, Run, HourAnswer, read, refused, hourIn, hourAhead, hourGroup, errorOf, scedSum}
 use Rattle.record.specs.Record.{noHours, fresh, groupAt, withGroup}
-use Rattle.settling.specs.Possible.{meanOf, squaresAround, allPossible}
+use Rattle.possible.specs.Possible.{meanOf, squaresAround, allPossible}
 use Rattle.history.specs.Booking.{withError, kept, bookError, bookHour, booked}
 use Rattle.settling.specs.Settle.{spreadOf}
 use Rattle.history.specs.Promises.{bookedAll, HourLowered, hour-lowered, PlaceLowered, both-refused, both-accepted, ListsLowered, LoweredErrorsLowerMeans}

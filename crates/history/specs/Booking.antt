@@ -8,7 +8,7 @@ use Rattle.curve_set.specs.Answer.{refusal}
 use Rattle.curve_set.specs.declared.answer.Answer.the-variants as answer
 use Rattle.hour.specs.Hour.{HourAnswer, read, refused, hourIn, hourGroup, errorOf}
 use Rattle.record.specs.Record.{groupAt, withGroup}
-use Rattle.settling.specs.Possible.{allPossible}
+use Rattle.possible.specs.Possible.{allPossible}
 use Rattle.record.specs.declared.Group.{Group}
 use Rattle.record.specs.declared.Record.{Record}
 use Rattle.history.specs.declared.Booking.{Booking}

@@ -7,7 +7,7 @@ use lib.IntN.{pos, _-ℤ_}
 use Rattle.text.specs.declared.refusal.Refusal.{Refusal}
 use Rattle.hour.specs.Hour.{Hour, Run, HourAnswer, read, hourIn, hourAhead}
 use Rattle.record.specs.Record.{fresh, groupAt}
-use Rattle.settling.specs.Possible.{meanOf, allPossible}
+use Rattle.possible.specs.Possible.{meanOf, allPossible}
 use Rattle.history.specs.Booking.{booked}
 use Rattle.settling.specs.Settle.{spreadOf}
 use Rattle.curve_set.specs.declared.answer.Answer.{Answer}

@@ -3,15 +3,15 @@ ghost use mathlib.Core.Path.{_≡_};
 ghost use mathlib.Core.Bool.{true};
 ghost use Prim.Native.Nat.{_≤_, _<_};
 ghost use lib.IntN.{natAbs};
-ghost use Rattle.settling.specs.Possible.{SmallGroup, allPossible};
+ghost use Rattle.possible.specs.Possible.{SmallGroup, allPossible};
 ghost use Rattle.history.specs.Booking.{withError, kept, bookError, booked};
 use curve_set::answer::Answer;
 use hour::read::ReadHour;
 use hour::read::read_hour;
 use integer::magnitude;
+use possible::all_possible;
 use record::Group;
 use record::Record;
-use settling::possible::all_possible;
 use text::refusal::Refusal;
 
 // A record after an hour was booked, or as it was before where the hour was refused.

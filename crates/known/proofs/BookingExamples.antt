@@ -10,7 +10,7 @@ use Rattle.curve_set.specs.declared.answer.Answer.the-variants as answer
 use Rattle.record.specs.declared.Group.{Group}
 use Rattle.curve_set.specs.Answer.{refusal}
 use Rattle.record.specs.Record.{noHours, fresh, groupAt, withGroup}
-use Rattle.settling.specs.Possible.{meanOf, squaresAround, notNegative, possible}
+use Rattle.possible.specs.Possible.{meanOf, squaresAround, notNegative, possible}
 use Rattle.history.specs.Booking.{withError, bookError}
 use Rattle.settling.specs.Settle.{spreadOf, settledGroups}
 

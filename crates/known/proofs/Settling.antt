@@ -6,7 +6,7 @@ use Rattle.root.specs.Root.{raised, rootIn, rootOf}
 use Rattle.curve_values.specs.CurveValues.{pairValues}
 use Rattle.known.specs.Statement.{AllHold}
 use Rattle.history.specs.Booking.{withError}
-use Rattle.settling.specs.Possible.{meanOf, squaresAround, possible, allPossible}
+use Rattle.possible.specs.Possible.{meanOf, squaresAround, possible, allPossible}
 use Rattle.settling.specs.Settle.{spreadOf, pairOf, settledGroups, settled}
 use Rattle.known.specs.Settling.{settledValues}
 

@@ -27,7 +27,7 @@ use Rattle.season.specs.Season.{seasonOf, blockOf, groupOf}
 use Rattle.block.specs.Block.{repeated}
 use Rattle.hour.specs.Hour.{HourAnswer, hourOf, read, hourFields, runFields, runsOf, hourIn, hourAhead, scedReserve, scedSum, errorOf}
 use Rattle.record.specs.Record.{fresh}
-use Rattle.settling.specs.Possible.{allPossible, possible, meanOf, squaresAround}
+use Rattle.possible.specs.Possible.{allPossible, possible, meanOf, squaresAround}
 use Rattle.history.specs.Booking.{kept, bookError, bookHour, withError, booked}
 use Rattle.settling.specs.Settle.{spreadOf, pairOf, settledGroups, settled}
 use Rattle.history.specs.Promises.{bookedAll, HourLowered, hour-lowered, both-accepted, ListsLowered}

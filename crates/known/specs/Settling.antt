@@ -5,7 +5,7 @@ use lib.ListN.{replicate}
 use Rattle.curve_values.specs.CurveValues.{pairValues}
 use Rattle.known.specs.Statement.{numberAndLine}
 use Rattle.record.specs.Record.{noHours}
-use Rattle.settling.specs.Possible.{meanOf}
+use Rattle.possible.specs.Possible.{meanOf}
 use Rattle.history.specs.Booking.{withError}
 use Rattle.settling.specs.Settle.{settled}
 use Rattle.record.specs.declared.Group.{Group}

@@ -12,7 +12,7 @@ use lib.ListN.{length, take, drop, getD, set}
 use lib.Seq.{drop-cons, drop-drop, getD-drop, lt-length-set, take-suc-set}
 use Rattle.block.specs.Block.{value}
 use Rattle.record.specs.Record.{noHours}
-use Rattle.settling.specs.Possible.{allPossible}
+use Rattle.possible.specs.Possible.{allPossible}
 use Rattle.history.specs.Booking.{booked}
 use Rattle.history.proofs.Closure.{booked-possible}
 use Rattle.record.specs.declared.Group.{Group}

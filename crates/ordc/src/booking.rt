@@ -5,7 +5,7 @@ ghost use Prim.Native.Nat.{_+_, _<_, _≤_};
 ghost use lib.IntN.{pos};
 ghost use lib.ListN.{set};
 ghost use Rattle.block.specs.Block.{value};
-ghost use Rattle.settling.specs.Possible.{allPossible};
+ghost use Rattle.possible.specs.Possible.{allPossible};
 ghost use Rattle.ordc.specs.Record.{countOf, recordOf, recordValues, HourBooked};
 use crate::refusal::Refusal;
 use crate::refusal::is_refusal;

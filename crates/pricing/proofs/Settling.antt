@@ -16,7 +16,7 @@ use Rattle.season.specs.Season.{seasonOf, blockOf, groupOf}
 use Rattle.hour.specs.Hour.{HourAnswer, read, refused, hourIn, hourGroup, errorOf}
 use Rattle.curve_set.specs.Answer.{refusal}
 use Rattle.record.specs.Record.{noHours, fresh, groupAt, withGroup}
-use Rattle.settling.specs.Possible.{meanOf, allPossible}
+use Rattle.possible.specs.Possible.{meanOf, allPossible}
 use Rattle.history.specs.Booking.{withError, kept, bookError, bookHour, booked}
 use Rattle.curve_set.specs.Curves.{vollInRange, floorInRange, refusedCurves}
 use Rattle.settling.specs.Settle.{spreadOf, pairOf, settledGroups, settledSet, settled}

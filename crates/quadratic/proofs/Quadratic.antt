@@ -1,12 +1,12 @@
--- The quadratic q − 2·x·s + c·x² over ℤ: its least value on whole numbers, a shift of x, one more error.
+-- The quadratic q − 2·x·s + c·x² over ℤ: its least value on whole numbers and a bound next to it, a shift of x, one more error.
 use mathlib.Core.Path.{_≡_, sym, ap, _∙_, subst}
 use mathlib.Core.Logic.{_⊎_, inl, inr}
 use native.Mathlib.Omega.{arith}
-use lib.IntN.{ℤ, pos, _+ℤ_, _-ℤ_, _*ℤ_}
+use lib.IntN.{ℤ, pos, negℤ, _+ℤ_, _-ℤ_, _*ℤ_}
 use lib.Signed.{_≤ℤ_, _<ℤ_}
 use Rattle.quadratic.specs.Quadratic.{quadratic}
 use Rattle.integer.proofs.Difference.{view, toℕ, toℕ-products}
-use Rattle.integer.proofs.Order.{≤ℤ-or-<ℤ, product-nonneg, sum-nonneg, -ℤ-nonneg, pos-≤ℤ, <ℤ-suc, <ℤ-to-≤ℤ}
+use Rattle.integer.proofs.Order.{≤ℤ-or-<ℤ, product-nonneg, sum-nonneg, square-nonneg, -ℤ-nonneg, pos-≤ℤ, <ℤ-suc, <ℤ-to-≤ℤ}
 
 -- every error falls by d, and x too: the value stays
 pub quadratic-shift : (s q c x d : ℤ) → quadratic (s -ℤ c *ℤ d) (q -ℤ pos 2 *ℤ (d *ℤ s) +ℤ c *ℤ (d *ℤ d)) c (x -ℤ d) ≡ quadratic s q c x
@@ -49,3 +49,28 @@ quadratic-nonneg s q c m low high f g x = go (≤ℤ-or-<ℤ x m)
     go (inr h) = subst (λ (z : ℤ). pos 0 ≤ℤ z) (sym (ap (quadratic s q c) (above x m) ∙ right-of s q c m (x -ℤ (m +ℤ pos 1))))
         (sum-nonneg g (gap c (x -ℤ (m +ℤ pos 1)) (c *ℤ (m +ℤ pos 1) -ℤ s) (positive c m s low high)
         (-ℤ-nonneg x (m +ℤ pos 1) .1 (<ℤ-suc m x .0 h)) (-ℤ-nonneg (c *ℤ (m +ℤ pos 1)) s .1 (<ℤ-to-≤ℤ high))))
+
+-- At the floor of s / c the value is at most q + c: with r = s − c·m, the rest is c + m·(c·m + 2·r), and (c·(m + 1)² − 2·m·(c − r)) too
+rest-above : (s q c m : ℤ) → q +ℤ c -ℤ quadratic s q c m ≡ c +ℤ m *ℤ (c *ℤ m +ℤ pos 2 *ℤ (s -ℤ c *ℤ m))
+unfolding quadratic
+rest-above s q c m = rw (view s, view q, view c, view m) (simp toℕ-products (omega arith))
+
+rest-below : (s q c m : ℤ) → q +ℤ c -ℤ quadratic s q c m ≡ c *ℤ ((m +ℤ pos 1) *ℤ (m +ℤ pos 1)) +ℤ negℤ m *ℤ (pos 2 *ℤ (c *ℤ (m +ℤ pos 1) -ℤ s))
+unfolding quadratic
+rest-below s q c m = rw (view s, view q, view c, view m) (simp toℕ-products (omega arith))
+
+pub quadratic-bound : (s q c m : ℤ) → pos 0 ≤ℤ c → (c *ℤ m) ≤ℤ s → s <ℤ (c *ℤ (m +ℤ pos 1)) → quadratic s q c m ≤ℤ (q +ℤ c)
+quadratic-bound s q c m positive low high = -ℤ-nonneg (q +ℤ c) (quadratic s q c m) .0 (go (≤ℤ-or-<ℤ (pos 0) m))
+  where
+    two : pos 0 ≤ℤ pos 2
+    two = pos-≤ℤ 0 2 .1 (omega arith)
+
+    turned : (m : ℤ) → m <ℤ pos 0 → pos 0 ≤ℤ negℤ m
+    turned m = rw (view m) (simp toℕ (omega arith))
+
+    go : (pos 0 ≤ℤ m) ⊎ (m <ℤ pos 0) → pos 0 ≤ℤ (q +ℤ c -ℤ quadratic s q c m)
+    go (inl h) = rw rest-above
+        (sum-nonneg positive (product-nonneg h (sum-nonneg (product-nonneg positive h) (product-nonneg two (-ℤ-nonneg s (c *ℤ m) .1 low)))))
+    go (inr h) = rw rest-below
+        (sum-nonneg (product-nonneg positive (square-nonneg (m +ℤ pos 1)))
+        (product-nonneg (turned m h) (product-nonneg two (-ℤ-nonneg (c *ℤ (m +ℤ pos 1)) s .1 (<ℤ-to-≤ℤ high)))))

@@ -1,4 +1,2 @@
--- Laws that the proofs of several functions share, and that crates above cite; the proofs of the named statements of specs/Promises.antt.
-pub mod PossibleGroups
-pub mod Turns
+-- Laws that the proofs of functions and crates above cite; the proof of the named statement of specs/Promises.antt.
 pub mod Range

@@ -1,6 +1,5 @@
--- The mean and the spread of a possible group are in range, and so is a settled curve set.
+-- The spread of a possible group is in range, and so is a settled curve set.
 use mathlib.Core.Path.{_≡_, refl}
-use mathlib.Core.Logic.{_⊎_, inl, inr}
 use mathlib.Core.Bool.{Bool, true, false, _&&_}
 use mathlib.Core.List.{List, [], _∷_, map}
 use Prim.Native.Nat.{ℕ, suc, _+_, _*_, _/_, _≤_, _<_}
@@ -8,13 +7,13 @@ use native.Mathlib.Nat.{div-le-of-le-mul}
 use native.Mathlib.Omega.{arith}
 use borrow.Author.Tests.{ltb-false, eqb-false}
 use lib.Dec.{ltb, eqb}
-use lib.IntN.{ℤ, pos, negℤ, natAbs, _+ℤ_, _-ℤ_, _*ℤ_}
-use lib.Signed.{_≤ℤ_, _<ℤ_}
-use Rattle.quadratic.specs.Quadratic.{quadratic}
-use Rattle.integer.proofs.Difference.{view, toℕ, toℕ-products}
-use Rattle.integer.proofs.Order.{le-leZ, ≤ℤ-or-<ℤ, <ℤ-to-≤ℤ, -ℤ-nonneg, sum-nonneg, product-nonneg, square-nonneg, pos-≤ℤ}
+use lib.IntN.{ℤ, pos, natAbs, _+ℤ_}
+use lib.Signed.{_≤ℤ_}
+use Rattle.integer.proofs.Difference.{view, toℕ}
+use Rattle.integer.proofs.Order.{le-leZ, pos-≤ℤ}
 use Rattle.integer.proofs.Bounds.{abs-bound}
-use Rattle.integer.proofs.Floor.{floor-low, floor-high, floor-bound}
+use Rattle.integer.proofs.Floor.{floor-low, floor-high}
+use Rattle.quadratic.proofs.Quadratic.{quadratic-bound}
 use Rattle.root.proofs.SquareRoot.{root-is, root-le}
 use Rattle.text.specs.Choice.{pick}
 use Rattle.curve_set.specs.declared.answer.Answer.{Answer}
@@ -23,40 +22,11 @@ use Rattle.record.specs.declared.Group.{Group}
 use Rattle.curve_set.specs.declared.CurveSet.{CurveSet}
 use Rattle.curve_set.specs.declared.Curves.{Curves}
 use Rattle.curve_set.specs.Answer.{refusal}
-use Rattle.settling.specs.Possible.{meanOf, squaresAround, SmallGroup, possible, allPossible}
+use Rattle.possible.specs.Possible.{meanOf, squaresAround, possible, allPossible}
 use Rattle.curve_set.specs.Curves.{vollInRange, floorInRange, pairInRange, pairsInRange, curvesInRange, refusedCurves}
 use Rattle.settling.specs.Settle.{spreadOf, pairOf, settledGroups, settledSet, settled}
 use Rattle.settling.specs.Promises.{SettledCurvesAreInRange}
-use Rattle.settling.proofs.PossibleGroups.{and-split, Possible, possible-is}
-
-pub mean-bound : (g : Group) → SmallGroup g → natAbs (meanOf g) ≤ 20000000
-unfolding meanOf
-mean-bound g small = floor-bound (g .sum) (g .count) 20000000 (small .sum)
-
--- V is at most one for each hour above the squares: with r = s − c·m, the rest is c + m·(c·m + 2·r), and (c·(m + 1)² − 2·m·(c − r)) too
-rest-above : (s q c m : ℤ) → q +ℤ c -ℤ quadratic s q c m ≡ c +ℤ m *ℤ (c *ℤ m +ℤ pos 2 *ℤ (s -ℤ c *ℤ m))
-unfolding quadratic
-rest-above s q c m = rw (view s, view q, view c, view m) (simp toℕ-products (omega arith))
-
-rest-below : (s q c m : ℤ) → q +ℤ c -ℤ quadratic s q c m ≡ c *ℤ ((m +ℤ pos 1) *ℤ (m +ℤ pos 1)) +ℤ negℤ m *ℤ (pos 2 *ℤ (c *ℤ (m +ℤ pos 1) -ℤ s))
-unfolding quadratic
-rest-below s q c m = rw (view s, view q, view c, view m) (simp toℕ-products (omega arith))
-
-v-bound : (s q c m : ℤ) → pos 0 ≤ℤ c → (c *ℤ m) ≤ℤ s → s <ℤ (c *ℤ (m +ℤ pos 1)) → quadratic s q c m ≤ℤ (q +ℤ c)
-v-bound s q c m positive low high = -ℤ-nonneg (q +ℤ c) (quadratic s q c m) .0 (go (≤ℤ-or-<ℤ (pos 0) m))
-  where
-    two : pos 0 ≤ℤ pos 2
-    two = pos-≤ℤ 0 2 .1 (omega arith)
-
-    turned : (m : ℤ) → m <ℤ pos 0 → pos 0 ≤ℤ negℤ m
-    turned m = rw (view m) (simp toℕ (omega arith))
-
-    go : (pos 0 ≤ℤ m) ⊎ (m <ℤ pos 0) → pos 0 ≤ℤ (q +ℤ c -ℤ quadratic s q c m)
-    go (inl h) = rw rest-above
-        (sum-nonneg positive (product-nonneg h (sum-nonneg (product-nonneg positive h) (product-nonneg two (-ℤ-nonneg s (c *ℤ m) .1 low)))))
-    go (inr h) = rw rest-below
-        (sum-nonneg (product-nonneg positive (square-nonneg (m +ℤ pos 1)))
-        (product-nonneg (turned m h) (product-nonneg two (-ℤ-nonneg (c *ℤ (m +ℤ pos 1)) s .1 (<ℤ-to-≤ℤ high)))))
+use Rattle.possible.proofs.PossibleGroups.{and-split, mean-bound, Possible, possible-is}
 
 pub spread-bound : (g : Group) → Possible g → 0 < g .count → spreadOf g ≤ 20000000
 unfolding spreadOf squaresAround meanOf
@@ -73,7 +43,7 @@ spread-bound g p some =
     v-small = omega (
       arith,
       small v (g .squares) (g .count) (g .count * 400000000000000) (p .around (meanOf g))
-          (v-bound (g .sum) (g .squares) (pos (g .count)) (meanOf g) (pos-≤ℤ 0 (g .count) .1 (omega arith))
+          (quadratic-bound (g .sum) (g .squares) (pos (g .count)) (meanOf g) (pos-≤ℤ 0 (g .count) .1 (omega arith))
           (floor-low (g .sum) (g .count) some) (floor-high (g .sum) (g .count) some)) (p .small .high),
     )
 

@@ -1,4 +1,3 @@
--- Document 01, "History to curves": when a record is impossible, and settling.
-pub mod Possible
+-- Document 01, "History to curves": settling.
 pub mod Settle
 pub mod Promises

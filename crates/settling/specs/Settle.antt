@@ -6,7 +6,7 @@ use lib.IntN.{ℤ, pos, natAbs}
 use Rattle.root.specs.Root.{rootOf}
 use Rattle.text.specs.Choice.{pick}
 use Rattle.curve_set.specs.Answer.{refusal}
-use Rattle.settling.specs.Possible.{meanOf, squaresAround, allPossible}
+use Rattle.possible.specs.Possible.{meanOf, squaresAround, allPossible}
 use Rattle.curve_set.specs.Curves.{vollInRange, floorInRange, refusedCurves}
 use Rattle.curve_set.specs.declared.answer.Answer.{Answer}
 use Rattle.curve_set.specs.declared.answer.Answer.the-variants as answer

@@ -1,19 +1,16 @@
 // Settling: the mean and the spread of each group's errors, as a curve set.
-pub mod possible;
-
 ghost use mathlib.Core.Path.{_≡_};
 ghost use mathlib.Core.Bool.{true};
 ghost use Prim.Native.Nat.{_≤_};
-ghost use Rattle.settling.specs.Possible.{possible, allPossible};
+ghost use Rattle.possible.specs.Possible.{possible, allPossible};
 ghost use Rattle.settling.specs.Settle.{pairOf, settledCurves, settled};
-use crate::possible::all_possible;
-use crate::possible::squares_around;
 use curve_set::CurveSet;
 use curve_set::Curves;
 use curve_set::Pair;
 use curve_set::answer::Answer;
 use curve_set::refused_curves;
 use integer::floor_div;
+use possible::all_possible;
 use range::is_within;
 use record::Group;
 use record::Record;
@@ -26,7 +23,8 @@ fn pair_of(g: Group) -> Pair
     ensures { λ r. ⌜ r ≡ pairOf g ⌝ }
 {
     let mean = floor_div(g.sum, g.count);
-    let v = squares_around(g, mean);
+    // V, the sum of (e - mean)^2 over the errors, which fits since the group is possible.
+    let v = g.squares - 2 * (mean * g.sum) + (g.count as i64) * (mean * mean);
     let spread = root(floor_div(v, g.count) as u64);
     Pair {
         mean,

@@ -12,7 +12,7 @@ use Rattle.text.specs.Choice.{pick}
 use Rattle.text.specs.Bytes.{bytes}
 use Rattle.text.specs.declared.refusal.Refusal.{Refusal}
 use Rattle.hour.specs.Hour.{refused, hourIn}
-use Rattle.settling.specs.Possible.{allPossible}
+use Rattle.possible.specs.Possible.{allPossible}
 use Rattle.history.specs.Booking.{kept, bookHour, booked}
 use Rattle.curve_set.specs.declared.answer.Answer.{Answer}
 use Rattle.curve_set.specs.declared.answer.Answer.the-variants as answer

@@ -12,7 +12,7 @@ use Rattle.line.specs.Field.{Field, Answer, got, refused, fieldAt}
 use Rattle.block.specs.Block.{laidOver}
 use Rattle.text.specs.declared.refusal.Refusal.{Refusal}
 use Rattle.record.specs.Record.{fresh}
-use Rattle.settling.specs.Possible.{allPossible}
+use Rattle.possible.specs.Possible.{allPossible}
 use Rattle.history.specs.Booking.{booked}
 use Rattle.curve_set.specs.declared.answer.Answer as declared-answer
 use Rattle.curve_set.specs.declared.answer.Answer.the-variants as answer

@@ -23,7 +23,7 @@ use Rattle.curve_set.specs.declared.answer.Answer.the-variants as answer
 use Rattle.curve.specs.declared.WrittenCurves.{WrittenCurves}
 use Rattle.curve.specs.declared.WrittenCurves.the-variants as written-curves
 use Rattle.curve.proofs.CurveRoundTrip.{curve-text-is-short}
-use Rattle.settling.specs.Possible.{allPossible}
+use Rattle.possible.specs.Possible.{allPossible}
 use Rattle.settling.specs.Settle.{pairOf, settledGroups, settledSet, settled}
 use Rattle.record.specs.declared.Record.{Record}
 use Rattle.settling.proofs.Range.{settled-in-range}

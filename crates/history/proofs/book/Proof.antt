@@ -8,7 +8,7 @@ use mir.Val.{SFits}
 use mir.Facts.{toZ-ofZ}
 use Rattle.hour.specs.declared.read.ReadHour.the-variants as read-hour
 use Rattle.hour.specs.Hour.{hourIn, errorAnswer}
-use Rattle.settling.specs.Possible.{allPossible}
+use Rattle.possible.specs.Possible.{allPossible}
 use Rattle.history.specs.Booking.{booked}
 use Rattle.history.proofs.Booked.{booked-refused, booked-error, group-below}
 use Rattle.history.proofs.book.Statement.{statement}

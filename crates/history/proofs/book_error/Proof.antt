@@ -6,8 +6,8 @@ use mir.Facts.{toZ-ofZ}
 use Rattle.record.specs.declared.Group.{Group}
 use Rattle.record.specs.Record.{groupAt}
 use Rattle.history.specs.Booking.{bookError}
-use Rattle.settling.proofs.PossibleGroups.{possible-is, possible-at}
-use Rattle.settling.proofs.Turns.{group-byte}
+use Rattle.possible.proofs.PossibleGroups.{possible-is, possible-at}
+use Rattle.possible.proofs.Turns.{group-byte}
 use Rattle.history.proofs.book_error.Statement.{statement}
 use Rattle.history.proofs.book_error.Tie as tie
 

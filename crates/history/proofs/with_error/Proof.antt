@@ -7,9 +7,9 @@ use mir.Val.{SFits}
 use mir.Facts.{toZ-ofZ}
 use Rattle.integer.proofs.Bounds.{abs-add, abs-mul, abs-fits}
 use Rattle.record.specs.declared.Group.{Group}
-use Rattle.settling.specs.Possible.{SmallGroup}
+use Rattle.possible.specs.Possible.{SmallGroup}
 use Rattle.history.specs.Booking.{withError}
-use Rattle.settling.proofs.PossibleGroups.{squares-bound}
+use Rattle.possible.proofs.PossibleGroups.{squares-bound}
 use Rattle.history.proofs.with_error.Statement.{statement}
 use Rattle.history.proofs.with_error.Tie as tie
 

@@ -4,12 +4,12 @@ use mathlib.Core.Path.{_≡_, refl, sym, _∙_}
 use mathlib.Core.Bool.{Bool, true, false, _&&_}
 use borrow.Author.Tests.{not-true, not-false}
 use mir.Facts.{toZ-ofZ}
-use Rattle.settling.specs.Possible.{allPossible}
+use Rattle.possible.specs.Possible.{allPossible}
 use Rattle.curve_set.specs.Curves.{vollInRange, floorInRange}
 use Rattle.settling.specs.Settle.{settledCurves, settled}
 use Rattle.curve_set.specs.declared.Curves.{Curves}
 use Rattle.text.specs.Choice.{pick}
-use Rattle.settling.proofs.PossibleGroups.{and-split}
+use Rattle.possible.proofs.PossibleGroups.{and-split}
 use Rattle.settling.proofs.settle.Statement.{statement}
 use Rattle.settling.proofs.settle.Tie as tie
 

@@ -1,6 +1,6 @@
 use mathlib.Core.Path.{_≡_, refl, sym, ap, _∙_}
 use mathlib.Core.List.{List, map}
-use Prim.Native.Nat.{ℕ, _+_, _≤_, _<_, _-_}
+use Prim.Native.Nat.{ℕ, _+_, _*_, _≤_, _<_, _-_}
 use native.Mathlib.Numerals.{add-one}
 use native.Mathlib.Omega.{arith}
 use borrow.Author.Tests.{lt-ltb, le-ltb, eq-eqb, ne-eqb}
@@ -8,7 +8,7 @@ use lib.Dec.{ltb, eqb}
 use lib.ListN.{length, getD, take, drop, set, length-map, length-set, List·getD-map, drop-of-length-le}
 use lib.Seq.{drop-cons, take-all, take-suc, take-suc-set}
 use mir.Syntax.{w64}
-use mir.Val.{ofZ}
+use mir.Val.{Fits, ofZ}
 use mir.Facts.{toZ-ofZ}
 use Rattle.text.specs.Choice.{pick}
 use Rattle.curve_set.specs.declared.answer.Answer.the-variants as answer
@@ -17,8 +17,8 @@ use Rattle.curve_set.specs.declared.Pair.{Pair}
 use Rattle.curve_set.specs.Answer.{refusal}
 use Rattle.record.specs.Record.{noHours}
 use Rattle.settling.specs.Settle.{spreadOf, pairOf, settledGroups}
-use Rattle.settling.proofs.PossibleGroups.{possible-at}
-use Rattle.settling.proofs.Turns.{group-byte, pair-byte, one-more, passed, fewer-left, turn-within, turns-over}
+use Rattle.possible.proofs.PossibleGroups.{possible-at}
+use Rattle.possible.proofs.Turns.{group-byte, one-more, passed, fewer-left, turn-within, turns-over}
 use Rattle.settling.proofs.settle_groups.Statement.{statement}
 use Rattle.settling.proofs.settle_groups.Tie as tie
 
@@ -107,6 +107,9 @@ returns-2 c =
       le-ltb (at-hand turn .count) 2 (made .before .if1 .left),
       eq-eqb (spreadOf (at-hand turn)) 0 (sym (spread-is made) ∙ c .before .if2 .taken),
     ) (c .refused-curves2 .ensures)
+
+pair-byte : {i : ℕ} → i < 24 → Fits w64 (i * 16)
+pair-byte more = omega arith
 
 mul-pairs : tie.Need-mul-pairs Inv-loop μ-loop
 mul-pairs c = pair-byte (c .before .before .before .before .before .before .before .loop-test .taken)

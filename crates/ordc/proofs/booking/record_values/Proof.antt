@@ -6,7 +6,7 @@ use mathlib.Core.Path.{_≡_, refl, sym, _∙_}
 use lib.ListN.{length, take, drop, getD, length-map, length-set, drop-of-length-le}
 use lib.Seq.{take-all}
 use Rattle.record.specs.Record.{noHours}
-use Rattle.settling.proofs.PossibleGroups.{possible-at, possible-is}
+use Rattle.possible.proofs.PossibleGroups.{possible-at, possible-is}
 use Rattle.record.specs.declared.Group.{Group}
 use Rattle.ordc.specs.Record.{groupValues}
 use Rattle.ordc.proofs.Groups.{values-more}

@@ -16,11 +16,11 @@ use Rattle.quadratic.specs.Quadratic.{quadratic}
 use Rattle.range.specs.Range.{within}
 use Rattle.integer.proofs.Difference.{view, toℕ}
 use Rattle.integer.proofs.Order.{leZ-true, le-leZ}
-use Rattle.integer.proofs.Floor.{floor-low, floor-high}
+use Rattle.integer.proofs.Floor.{floor-low, floor-high, floor-bound}
 use Rattle.quadratic.proofs.Quadratic.{quadratic-nonneg}
 use Rattle.record.specs.declared.Group.{Group}
 use Rattle.record.specs.Record.{noHours}
-use Rattle.settling.specs.Possible.{meanOf, squaresAround, notNegative, SmallGroup, possible, allPossible}
+use Rattle.possible.specs.Possible.{meanOf, squaresAround, notNegative, SmallGroup, possible, allPossible}
 
 pub and-split : (a b : Bool) → a && b ≡ true → (a ≡ true) × (b ≡ true)
 and-split true b e = (refl, e)
@@ -31,6 +31,10 @@ squares-bound g small = go (g .squares) (g .count * 400000000000000) (small .low
   where
     go : (z : ℤ) (b : ℕ) → pos 0 ≤ℤ z → z ≤ℤ pos b → natAbs z ≤ b
     go z b = rw (view z) (simp toℕ (omega arith))
+
+pub mean-bound : (g : Group) → SmallGroup g → natAbs (meanOf g) ≤ 20000000
+unfolding meanOf
+mean-bound g small = floor-bound (g .sum) (g .count) 20000000 (small .sum)
 
 pub record Possible (g : Group) : Type 0 where
   pub small : SmallGroup g

@@ -2,7 +2,7 @@
 ghost use mathlib.Core.Path.{_≡_};
 ghost use Prim.Native.Nat.{_≤_};
 ghost use lib.IntN.{natAbs};
-ghost use Rattle.settling.specs.Possible.{squaresAround, SmallGroup, possible, allPossible};
+ghost use Rattle.possible.specs.Possible.{squaresAround, SmallGroup, possible, allPossible};
 use integer::floor_div;
 use integer::magnitude;
 use range::is_within;
@@ -10,7 +10,7 @@ use record::Group;
 use record::Record;
 
 // V of a group with x for its mean: squares - 2 x sum + count x^2, which fits where the first tests on the group passed.
-pub(crate) fn squares_around(g: Group, x: i64) -> i64
+fn squares_around(g: Group, x: i64) -> i64
     requires { ⌜ SmallGroup g ⌝ }
     requires { ⌜ natAbs x ≤ 20000001 ⌝ }
     ensures { λ r. ⌜ r ≡ squaresAround g x ⌝ }

@@ -1,3 +1,4 @@
+-- V around a number near the mean of a small group: every step of the sum fits.
 use Prim.Native.Nat.{ℕ, _+_, _*_, _≤_}
 use native.Mathlib.Nat.{le-refl, mul-le-mul}
 use native.Mathlib.Omega.{arith}
@@ -5,17 +6,12 @@ use lib.Dec.{lit<}
 use lib.IntN.{ℤ, pos, natAbs, _+ℤ_, _-ℤ_, _*ℤ_}
 use mir.Syntax.{w64}
 use mir.Val.{SFits}
-use mir.Facts.{toZ-ofZ}
-use Rattle.quadratic.specs.Quadratic.{quadratic}
 use Rattle.integer.proofs.Bounds.{abs-add, abs-sub, abs-mul, bound-fits}
 use Rattle.record.specs.declared.Group.{Group}
-use Rattle.settling.specs.Possible.{SmallGroup, squaresAround}
-use Rattle.settling.proofs.PossibleGroups.{squares-bound}
-use Rattle.settling.proofs.possible.squares_around.Statement.{statement}
-use Rattle.settling.proofs.possible.squares_around.Tie as tie
+use Rattle.possible.specs.Possible.{SmallGroup}
+use Rattle.possible.proofs.PossibleGroups.{squares-bound}
 
--- every step of the sum fits
-record Steps (g : Group) (x : ℤ) : Type 0 where
+pub record Steps (g : Group) (x : ℤ) : Type 0 where
   pub mean : SFits w64 x
   pub sum : SFits w64 (g .sum)
   pub squares : SFits w64 (g .squares)
@@ -27,7 +23,7 @@ record Steps (g : Group) (x : ℤ) : Type 0 where
   pub counted : SFits w64 (pos (g .count) *ℤ (x *ℤ x))
   pub whole : SFits w64 (g .squares -ℤ pos 2 *ℤ (x *ℤ g .sum) +ℤ pos (g .count) *ℤ (x *ℤ x))
 
-steps : (g : Group) (x : ℤ) → SmallGroup g × (natAbs x ≤ 20000001) → Steps g x
+pub steps : (g : Group) (x : ℤ) → SmallGroup g × (natAbs x ≤ 20000001) → Steps g x
 steps g x h =
     let near = h .1 in
     let sum = sum-small g (h .0) in
@@ -65,64 +61,3 @@ steps g x h =
 
     whole-small : (x y : ℤ) {a b : ℕ} → natAbs x ≤ a → natAbs y ≤ b → natAbs (x +ℤ y) ≤ a + b
     whole-small x y h k = omega (arith, abs-add x y)
-
-fitting : (c : tie.Start) → Steps (c .args .g) (c .args .x)
-fitting c = steps (c .args .g) (c .args .x) (c .pre)
-
-mul-result : tie.Need-mul-result
-mul-result c = let s = fitting (c .before .before) in rw (toZ-ofZ (s .mean), toZ-ofZ (s .sum)) (s .product)
-
-mul-result-2 : tie.Need-mul-result-2
-mul-result-2 c = let s = fitting (c .before .before) in rw (toZ-ofZ (s .mean), toZ-ofZ (s .sum), toZ-ofZ (s .product)) (s .twice)
-
-sub-result : tie.Need-sub-result
-sub-result c =
-    let s = fitting (c .before .before .before .before) in
-    rw (toZ-ofZ (s .squares), toZ-ofZ (s .mean), toZ-ofZ (s .sum), toZ-ofZ (s .product), toZ-ofZ (s .twice)) (s .difference)
-
-cast-result : tie.Need-cast-result
-cast-result c = fitting (c .before .before .before .before .before) .count
-
-mul-result-3 : tie.Need-mul-result-3
-mul-result-3 c = let s = fitting (c .before .before .before .before .before) in rw (toZ-ofZ (s .mean)) (s .square)
-
-mul-result-4 : tie.Need-mul-result-4
-mul-result-4 c =
-    let s = fitting (c .before .before .before .before .before) in
-    rw (toZ-ofZ (s .count), toZ-ofZ (s .mean), toZ-ofZ (s .square)) (s .counted)
-
-add-result : tie.Need-add-result
-add-result c =
-    let s = fitting (c .before .before .before .before .before) in
-    rw (
-      toZ-ofZ (s .squares),
-      toZ-ofZ (s .mean),
-      toZ-ofZ (s .sum),
-      toZ-ofZ (s .product),
-      toZ-ofZ (s .twice),
-      toZ-ofZ (s .difference),
-      toZ-ofZ (s .count),
-      toZ-ofZ (s .square),
-      toZ-ofZ (s .counted),
-    ) (s .whole)
-
-returns : tie.Need-returns
-unfolding squaresAround quadratic
-returns c =
-    let s = fitting (c .before .before .before .before .before) in
-    rw (
-      toZ-ofZ (s .squares),
-      toZ-ofZ (s .mean),
-      toZ-ofZ (s .sum),
-      toZ-ofZ (s .product),
-      toZ-ofZ (s .twice),
-      toZ-ofZ (s .difference),
-      toZ-ofZ (s .count),
-      toZ-ofZ (s .square),
-      toZ-ofZ (s .counted),
-      toZ-ofZ (s .whole),
-    )
-
-pub squares-around-spec : {M : Type 1} → statement M
-squares-around-spec =
-    tie.close (tie.spec mul-result mul-result-2 sub-result cast-result mul-result-3 mul-result-4 add-result returns)

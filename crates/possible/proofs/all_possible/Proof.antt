@@ -5,11 +5,11 @@ use native.Mathlib.Omega.{arith}
 use borrow.Author.Tests.{not-true, not-false}
 use lib.ListN.{length, getD, drop, length-map}
 use Rattle.record.specs.Record.{noHours}
-use Rattle.settling.specs.Possible.{possible, allPossible}
-use Rattle.settling.proofs.PossibleGroups.{possible-step, possible-end}
-use Rattle.settling.proofs.Turns.{group-byte, one-more, passed, fewer-left, turn-within, turns-over}
-use Rattle.settling.proofs.possible.all_possible.Statement.{statement}
-use Rattle.settling.proofs.possible.all_possible.Tie as tie
+use Rattle.possible.specs.Possible.{possible, allPossible}
+use Rattle.possible.proofs.PossibleGroups.{possible-step, possible-end}
+use Rattle.possible.proofs.Turns.{group-byte, one-more, passed, fewer-left, turn-within, turns-over}
+use Rattle.possible.proofs.all_possible.Statement.{statement}
+use Rattle.possible.proofs.all_possible.Tie as tie
 
 -- what is left to test decides
 abbrev Inv-loop : tie.InvT-loop

@@ -9,9 +9,6 @@ module _ {i : ℕ} (more : i < 24) where
   pub group-byte : Fits w64 (i * 24)
   group-byte = omega arith
 
-  pub pair-byte : Fits w64 (i * 16)
-  pair-byte = omega arith
-
   pub one-more : Fits w64 (i + 1)
   one-more = omega arith
 

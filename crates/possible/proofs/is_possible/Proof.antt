@@ -11,12 +11,11 @@ use mir.Val.{Fits, SFits}
 use mir.Facts.{toZ-ofZ}
 use Rattle.integer.specs.Floor.{floorDiv}
 use Rattle.integer.proofs.Bounds.{abs-add, abs-fits}
-use Rattle.integer.proofs.Floor.{floor-bound}
 use Rattle.record.specs.declared.Group.{Group}
-use Rattle.settling.specs.Possible.{SmallGroup, notNegative, possible, meanOf}
-use Rattle.settling.proofs.PossibleGroups.{tests, bounded, few-possible, bounded-small}
-use Rattle.settling.proofs.possible.is_possible.Statement.{statement}
-use Rattle.settling.proofs.possible.is_possible.Tie as tie
+use Rattle.possible.specs.Possible.{SmallGroup, notNegative, possible, meanOf}
+use Rattle.possible.proofs.PossibleGroups.{mean-bound, tests, bounded, few-possible, bounded-small}
+use Rattle.possible.proofs.is_possible.Statement.{statement}
+use Rattle.possible.proofs.is_possible.Tie as tie
 
 abbrev g1 : tie.Else1 → Group
 g1 c = c .before .before .args .g
@@ -103,9 +102,8 @@ mean-is c =
     let sum : SFits w64 (g3 c .sum) = sfits-of (c .before .struct-told3 .given .1 .0 .1) in
     c .floor-div .ensures ∙ ap (λ (z : ℤ). floorDiv z (g3 c .count)) (toZ-ofZ sum)
 
-mean-bound : (c : tie.After-floor-div) → natAbs (c .floor-div .result) ≤ 20000000
-unfolding meanOf
-mean-bound c = rw (mean-is c) (floor-bound (g3 c .sum) (g3 c .count) 20000000 (small (c .before .before .before .before) .sum))
+mean-small : (c : tie.After-floor-div) → natAbs (c .floor-div .result) ≤ 20000000
+mean-small c = rw (mean-is c) (mean-bound (g3 c) (small (c .before .before .before .before)))
 
 -- the mean and the next number are near
 near : (z : ℤ) → natAbs z ≤ 20000000 → natAbs z ≤ 20000001
@@ -119,17 +117,17 @@ next-fits z h = omega (arith, abs-fits, next-near z h)
 
 squares-around-requires : tie.Need-squares-around-requires
 squares-around-requires c κs =
-    (small (c .before .before .before .before), rw (toZ-ofZ (mean-fits c)) (near (c .floor-div .result) (mean-bound c)))
+    (small (c .before .before .before .before), rw (toZ-ofZ (mean-fits c)) (near (c .floor-div .result) (mean-small c)))
 
 add-squares-around : tie.Need-add-squares-around
-add-squares-around c = let found = c .before in rw (toZ-ofZ (mean-fits found)) (next-fits (found .floor-div .result) (mean-bound found))
+add-squares-around c = let found = c .before in rw (toZ-ofZ (mean-fits found)) (next-fits (found .floor-div .result) (mean-small found))
 
 squares-around-requires-2 : tie.Need-squares-around-requires-2
 squares-around-requires-2 c κs =
     let found = c .before in
     let mean = found .floor-div .result in (
       small (found .before .before .before .before),
-      rw (toZ-ofZ (mean-fits found), toZ-ofZ (next-fits mean (mean-bound found))) (next-near mean (mean-bound found)),
+      rw (toZ-ofZ (mean-fits found), toZ-ofZ (next-fits mean (mean-small found))) (next-near mean (mean-small found)),
     )
 
 left-tests : (c : tie.Else3) → let g = g2 (c .before .before .before) in possible g ≡ tests g
@@ -145,7 +143,7 @@ returns-4 c =
     let here-fits : SFits w64 (c .before .squares-around .result) = sfits-of (c .before .squares-around .ok) in
     let next-fit : SFits w64 (c .squares-around2 .result) = sfits-of (c .squares-around2 .ok) in
     let here = rw (toZ-ofZ (mean-fits found), mean-is found) at (c .before .squares-around .ensures) in
-    let next = rw (toZ-ofZ (mean-fits found), toZ-ofZ (next-fits mean (mean-bound found)), mean-is found) at (c .squares-around2 .ensures) in
+    let next = rw (toZ-ofZ (mean-fits found), toZ-ofZ (next-fits mean (mean-small found)), mean-is found) at (c .squares-around2 .ensures) in
     ap₂ (λ (x y : ℤ). notNegative x && notNegative y) (toZ-ofZ here-fits ∙ here) (toZ-ofZ next-fit ∙ next) ∙ sym (left-tests (found .before .before))
 
 pub is-possible-spec : {M : Type 1} → statement M

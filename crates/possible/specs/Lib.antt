@@ -1,0 +1,2 @@
+-- Document 01, "History to curves": when a record is impossible.
+pub mod Possible
