@@ -7,9 +7,11 @@ use native.Mathlib.Omega.{arith}
 use lib.IntN.{ℤ, pos, negℤ, natAbs, _+ℤ_, _-ℤ_, _*ℤ_}
 use lib.ListN.{getD}
 use lib.Signed.{leZ, _≤ℤ_}
+use mir.Syntax.{w64}
+use mir.Val.{SFits}
 use Rattle.integer.specs.Order.{minℤ, maxℤ}
 use Rattle.integer.proofs.Order.{leZ-true, ≤ℤ-trans}
-use Rattle.integer.proofs.Bounds.{abs-bound, abs-add, abs-sub, abs-mul}
+use Rattle.integer.proofs.Bounds.{abs-bound, abs-add, abs-sub, abs-mul, abs-fits}
 use Rattle.text.specs.Choice.{pick}
 use Rattle.probability.proofs.ProbabilityOrder.{online-le, offline-le}
 use Rattle.curve_set.specs.Curves.{pairInRange, pairsInRange, curvesInRange}
@@ -161,6 +163,9 @@ unfolding twiceAll
 all-bound {s} b = omega (arith, online-bound b, abs-add (twiceOnline s) (pos 2 *ℤ s .offline), abs-mul (pos 2) (s .offline))
 
 -- ---- v
+
+pub difference-fits : {curves : CurveSet} {h : Header} → CurvesBound curves → HeaderBound h → SFits w64 (curves .voll -ℤ h .lambda)
+difference-fits {curves} {h} c b = omega (arith, abs-fits, abs-sub (curves .voll) (h .lambda), c .voll)
 
 pub value-bound : {curves : CurveSet} {h : Header} → CurvesBound curves → HeaderBound h → valueOfReserve curves h ≤ 4000000
 unfolding valueOfReserve

@@ -2,14 +2,13 @@
 ghost use Prim.Native.Nat.{_≤_};
 ghost use mathlib.Core.Path.{_≡_};
 ghost use mathlib.Core.Bool.{true};
-ghost use lib.IntN.{pos, natAbs, _-ℤ_};
-ghost use Rattle.integer.specs.Order.{maxℤ};
 ghost use Rattle.curve_set.specs.Curves.{curvesInRange};
 ghost use Rattle.adder.specs.Sums.{sumsPossible, headerFault};
 ghost use Rattle.adder.specs.Price.{pairFor, rounded, pricesOf, sumsPriced};
 use crate::reserve::higher;
-use crate::reserve::online_reserve;
+use crate::reserve::reserve_of;
 use crate::reserve::total_reserve;
+use crate::reserve::twice_online;
 use crate::sums::Header;
 use crate::sums::Sums;
 use crate::sums::header_fault;
@@ -39,14 +38,6 @@ pub enum Pricing {
     Refused(Refusal),
 }
 
-// v = max(0, VOLL - lambda).
-fn value_of_reserve(voll: i64, lambda: i64) -> u64
-    requires { ⌜ natAbs voll ≤ 2000000 ⌝ ∗ ⌜ natAbs lambda ≤ 2000000 ⌝ }
-    ensures { λ r. ⌜ r ≡ natAbs (maxℤ (pos 0) (voll -ℤ lambda)) ⌝ }
-{
-    magnitude(higher(0, voll - lambda))
-}
-
 // A value times a share of two, rounded half up.
 fn rounded_share(value: u64, share: u64) -> u64
     requires { ⌜ value ≤ 4000000 ⌝ ∗ ⌜ share ≤ 2000000000 ⌝ }
@@ -73,11 +64,12 @@ fn both_prices(curves: CurveSet, header: Header, sums: Sums) -> Prices
     let floor = curves.floor as i32;
     let mean = pair.mean as i32;
     let spread = magnitude(pair.spread) as u32;
-    let rs = online_reserve(header, sums);
+    let rs = reserve_of(header, twice_online(sums));
     let rsns = total_reserve(header, sums);
     let pis = online_probability(rs, floor, mean, spread);
     let pins = offline_probability(rsns, floor, mean, spread);
-    let value = value_of_reserve(curves.voll, header.lambda);
+    // v = max(0, VOLL - lambda).
+    let value = magnitude(higher(0, curves.voll - header.lambda));
     Prices {
         rs,
         rsns,

@@ -5,7 +5,7 @@ ghost use mathlib.Core.Bool.{true};
 ghost use lib.IntN.{natAbs};
 ghost use Rattle.integer.specs.Order.{maxℤ};
 ghost use Rattle.adder.specs.Sums.{sumsPossible, headerFault};
-ghost use Rattle.adder.specs.Reserve.{twiceLoads, twiceOnline, discounted, onlineReserve, totalReserve};
+ghost use Rattle.adder.specs.Reserve.{twiceOnline, discounted, totalReserve};
 use crate::sums::Header;
 use crate::sums::Sums;
 use integer::floor_div;
@@ -17,38 +17,23 @@ pub(crate) fn higher(x: i64, y: i64) -> i64
     if x <= y { y } else { x }
 }
 
-// Twice L: the half kW of the cap is lost only in the floor of the reserve.
-fn twice_loads(sums: Sums) -> i64
-    requires { ⌜ sumsPossible sums ≡ true ⌝ }
-    ensures { λ r. ⌜ r ≡ twiceLoads sums ⌝ }
-{
-    let net = 2 * higher(sums.validated, 0);
-    let cap = 3 * sums.responsive;
-    if net <= cap { net } else { cap }
-}
-
-// Twice G + C + L.
-fn twice_online(sums: Sums) -> i64
+// Twice G + C + L: the half kW of the cap of L is lost only in the floor of the reserve.
+pub(crate) fn twice_online(sums: Sums) -> i64
     requires { ⌜ sumsPossible sums ≡ true ⌝ }
     ensures { λ r. ⌜ r ≡ twiceOnline sums ⌝ }
 {
-    2 * (sums.generation + sums.controllable) + twice_loads(sums)
+    let units = 2 * (sums.generation + sums.controllable);
+    let net = 2 * higher(sums.validated, 0);
+    let cap = 3 * sums.responsive;
+    if net <= cap { units + net } else { units + cap }
 }
 
-// Factor, under-generation and floor, from twice the reserve.
-fn reserve_of(header: Header, twice: i64) -> i64
+// Factor, under-generation and floor, from twice the reserve: RS from twice G + C + L.
+pub(crate) fn reserve_of(header: Header, twice: i64) -> i64
     requires { ⌜ headerFault header ≡ 0 ⌝ ∗ ⌜ natAbs twice ≤ 200000000000 ⌝ }
     ensures { λ r. ⌜ r ≡ discounted header twice ⌝ }
 {
     floor_div(header.factor * twice - 20000 * header.short, 20000)
-}
-
-// RS.
-pub(crate) fn online_reserve(header: Header, sums: Sums) -> i64
-    requires { ⌜ headerFault header ≡ 0 ⌝ ∗ ⌜ sumsPossible sums ≡ true ⌝ }
-    ensures { λ r. ⌜ r ≡ onlineReserve header sums ⌝ }
-{
-    reserve_of(header, twice_online(sums))
 }
 
 // RSNS.
@@ -56,8 +41,9 @@ pub(crate) fn total_reserve(header: Header, sums: Sums) -> i64
     requires { ⌜ headerFault header ≡ 0 ⌝ ∗ ⌜ sumsPossible sums ≡ true ⌝ }
     ensures { λ r. ⌜ r ≡ totalReserve header sums ⌝ }
 {
+    let twice = twice_online(sums);
     if header.prc <= header.eea1 {
-        return online_reserve(header, sums);
+        return reserve_of(header, twice);
     }
-    reserve_of(header, twice_online(sums) + 2 * sums.offline)
+    reserve_of(header, twice + 2 * sums.offline)
 }

@@ -1,13 +1,14 @@
 use Prim.Native.Nat.{_≤_}
 use mathlib.Core.Path.{_≡_, _∙_}
+use native.Mathlib.Omega.{arith}
 use borrow.Author.Needs.{sfits-of}
-use lib.IntN.{natAbs}
+use lib.IntN.{natAbs, _-ℤ_}
 use mir.Facts.{toZ-ofZ}
 use mir.Syntax.{w64}
-use mir.Val.{toZ, ofZ}
-use Rattle.adder.specs.Reserve.{onlineReserve, totalReserve}
+use mir.Val.{SFits, toZ, ofZ}
+use Rattle.adder.specs.Reserve.{twiceOnline, onlineReserve, totalReserve}
 use Rattle.adder.specs.Price.{valueOfReserve, shortageOnline, shortageOffline}
-use Rattle.adder.proofs.Bounds.{CurvesBound, PairBound, curves-bound, header-bound, value-bound, shortage-online-bound, shortage-offline-bound}
+use Rattle.adder.proofs.Bounds.{CurvesBound, HeaderBound, PairBound, sums-bound, curves-bound, header-bound, online-bound, difference-fits, value-bound, shortage-online-bound, shortage-offline-bound}
 use Rattle.adder.proofs.Steps.{narrow-fits, magnitude-fits, sum-fits, sum-bound, one-bound, online-same, offline-same, prices-same}
 use Rattle.adder.proofs.price.both_prices.Statement.{statement}
 use Rattle.adder.proofs.price.both_prices.Tie as tie
@@ -40,31 +41,38 @@ magnitude-requires c κs = tt
 cast-spread : tie.Need-cast-spread
 cast-spread c = rw (spread-is c) (magnitude-fits (pair-bound (c .before .before .before .before .before .before) .spread))
 
--- what each call gives
-rs-is : (c : tie.After-online-reserve) → let a = c .before .before .before .before .before .before .before .before .args in
-    toZ w64 (ofZ w64 (c .online-reserve .result)) ≡ onlineReserve (a .header) (a .sums)
-rs-is c = toZ-ofZ (sfits-of (c .online-reserve .ok)) ∙ c .online-reserve .ensures
+abbrev begin : tie.After-magnitude → tie.Start
+begin c = c .before .before .before .before .before .before .before
 
-rsns-is : (c : tie.After-total-reserve) → let a = c .before .before .before .before .before .before .before .before .before .args in
+-- what each call gives
+twice-is : (c : tie.After-twice-online) → toZ w64 (ofZ w64 (c .twice-online .result)) ≡ twiceOnline (begin (c .before) .args .sums)
+twice-is c = toZ-ofZ (sfits-of (c .twice-online .ok)) ∙ c .twice-online .ensures
+
+rs-is : (c : tie.After-reserve-of) → let a = begin (c .before .before) .args in
+    toZ w64 (ofZ w64 (c .reserve-of .result)) ≡ onlineReserve (a .header) (a .sums)
+unfolding onlineReserve
+rs-is c = toZ-ofZ (sfits-of (c .reserve-of .ok)) ∙ rw (twice-is (c .before)) at (c .reserve-of .ensures)
+
+rsns-is : (c : tie.After-total-reserve) → let a = begin (c .before .before .before) .args in
     toZ w64 (ofZ w64 (c .total-reserve .result)) ≡ totalReserve (a .header) (a .sums)
 rsns-is c = toZ-ofZ (sfits-of (c .total-reserve .ok)) ∙ c .total-reserve .ensures
 
-pis-is : (c : tie.After-online-probability) → let a = c .before .before .before .before .before .before .before .before .before .before .args in
+pis-is : (c : tie.After-online-probability) → let a = begin (c .before .before .before .before) .args in
     c .online-probability .result ≡ shortageOnline (a .curves) (a .header) (a .sums)
 pis-is c =
     let rs = c .before .before in
-    let spread = rs .before in
+    let spread = rs .before .before in
     let mean = spread .before .before in
     let floor = mean .before .before in
     let pair = floor .before .before in
     let a = pair .before .args in
     online-same (a .curves) (a .header) (a .sums) (c .online-probability .ensures) (rs-is rs) (toZ-ofZ (cast-floor floor) ∙ floor-read floor) (toZ-ofZ (cast-mean mean) ∙ mean-read mean) (spread-is spread) (pair .pair-for .ensures)
 
-pins-is : (c : tie.After-offline-probability) → let a = c .before .before .before .before .before .before .before .before .before .before .before .args in
+pins-is : (c : tie.After-offline-probability) → let a = begin (c .before .before .before .before .before) .args in
     c .offline-probability .result ≡ shortageOffline (a .curves) (a .header) (a .sums)
 pins-is c =
     let rsns = c .before .before in
-    let spread = rsns .before .before in
+    let spread = rsns .before .before .before in
     let mean = spread .before .before in
     let floor = mean .before .before in
     let pair = floor .before .before in
@@ -77,26 +85,60 @@ pis-bound c = rw (pis-is c) (shortage-online-bound _ _ _)
 pins-bound : (c : tie.After-offline-probability) → c .offline-probability .result ≤ 1000000000
 pins-bound c = rw (pins-is c) (shortage-offline-bound _ _ _)
 
-value-is : (c : tie.After-value-of-reserve) → let a = c .before .before .before .before .before .before .before .before .before .before .before .before .before .before .args in
-    c .value-of-reserve .result ≡ valueOfReserve (a .curves) (a .header)
+-- VOLL less lambda
+abbrev priced : tie.After-struct-told5 → tie.After-offline-probability
+priced c = c .before .before .before .before
+
+abbrev asked : tie.After-struct-told5 → tie.Start
+asked c = begin (priced c .before .before .before .before .before)
+
+difference : (c : tie.After-struct-told5) → let a = asked c .args in
+    toZ w64 (ofZ w64 (a .curves .voll)) -ℤ toZ w64 (ofZ w64 (a .header .lambda)) ≡ a .curves .voll -ℤ a .header .lambda
+difference c =
+    let a = asked c .args in
+    rw (
+      toZ-ofZ {z = a .curves .voll} (sfits-of (c .before .before .struct-told4 .given .0 .1)),
+      toZ-ofZ {z = a .header .lambda} (sfits-of (c .struct-told5 .given .1 .1 .0 .1)),
+    )
+
+header-small : (c : tie.Start) → HeaderBound (c .args .header)
+header-small c = header-bound (c .args .header) (c .pre .1 .1)
+
+fits : (c : tie.After-struct-told5) → SFits w64 (asked c .args .curves .voll -ℤ asked c .args .header .lambda)
+fits c = difference-fits (bound (asked c)) (header-small (asked c))
+
+sub-higher : tie.Need-sub-higher
+sub-higher c = rw (difference c) (fits c)
+
+higher-requires : tie.Need-higher-requires
+higher-requires c κs = tt
+
+magnitude-requires-2 : tie.Need-magnitude-requires-2
+magnitude-requires-2 c κs = tt
+
+value-is : (c : tie.After-magnitude2) → let a = asked (c .before .before) .args in c .magnitude2 .result ≡ valueOfReserve (a .curves) (a .header)
 unfolding valueOfReserve
 value-is c =
-    rw (c .value-of-reserve .ensures)
-    (rw (toZ-ofZ (sfits-of (c .before .before .struct-told4 .given .0 .1)), toZ-ofZ (sfits-of (c .before .struct-told5 .given .1 .1 .0 .1))))
+    let told = c .before .before in
+    rw (c .magnitude2 .ensures, toZ-ofZ (sfits-of (c .before .higher .ok)), c .before .higher .ensures)
+    (rw (difference told, toZ-ofZ (fits told)))
 
-v-bound : (c : tie.After-value-of-reserve) → c .value-of-reserve .result ≤ 4000000
-v-bound c =
-    let start = c .before .before .before .before .before .before .before .before .before .before .before .before .before .before in
-    rw (value-is c) (value-bound (bound start) (header-bound (start .args .header) (start .pre .1 .1)))
+v-bound : (c : tie.After-magnitude2) → c .magnitude2 .result ≤ 4000000
+v-bound c = let start = asked (c .before .before) in rw (value-is c) (value-bound (bound start) (header-small start))
 
 pair-for-requires : tie.Need-pair-for-requires
 pair-for-requires c κs = c .pre .1 .1
 
-online-reserve-requires : tie.Need-online-reserve-requires
-online-reserve-requires c κs = let start = c .before .before .before .before .before .before .before in (start .pre .1 .1, start .pre .1 .0)
+twice-online-requires : tie.Need-twice-online-requires
+twice-online-requires c κs = begin c .pre .1 .0
+
+reserve-of-requires : tie.Need-reserve-of-requires
+reserve-of-requires c κs =
+    let start = begin (c .before) in
+    (start .pre .1 .1, rw (twice-is c) (omega (arith, online-bound (sums-bound (start .args .sums) (start .pre .1 .0)))))
 
 total-reserve-requires : tie.Need-total-reserve-requires
-total-reserve-requires c κs = let start = c .before .before .before .before .before .before .before .before in (start .pre .1 .1, start .pre .1 .0)
+total-reserve-requires c κs = let start = begin (c .before .before) in (start .pre .1 .1, start .pre .1 .0)
 
 online-probability-requires : tie.Need-online-probability-requires
 online-probability-requires c κs = tt
@@ -104,29 +146,22 @@ online-probability-requires c κs = tt
 offline-probability-requires : tie.Need-offline-probability-requires
 offline-probability-requires c κs = tt
 
-value-of-reserve-requires : tie.Need-value-of-reserve-requires
-value-of-reserve-requires c κs =
-    let start = c .before .before .before .before .before .before .before .before .before .before .before .before .before in (
-      rw (toZ-ofZ (sfits-of (c .before .struct-told4 .given .0 .1))) (bound start .voll),
-      rw (toZ-ofZ (sfits-of (c .struct-told5 .given .1 .1 .0 .1))) (header-bound (start .args .header) (start .pre .1 .1) .lambda),
-    )
-
 add-rounded-share : tie.Need-add-rounded-share
-add-rounded-share c = let pins = c .before .before .before in sum-fits (pis-bound (pins .before)) (pins-bound pins)
+add-rounded-share c = let pins = priced (c .before .before) in sum-fits (pis-bound (pins .before)) (pins-bound pins)
 
 rounded-share-requires : tie.Need-rounded-share-requires
-rounded-share-requires c κs = let pins = c .before .before .before in (v-bound c, sum-bound (pis-bound (pins .before)) (pins-bound pins))
+rounded-share-requires c κs = let pins = priced (c .before .before) in (v-bound c, sum-bound (pis-bound (pins .before)) (pins-bound pins))
 
 rounded-share-requires-2 : tie.Need-rounded-share-requires-2
-rounded-share-requires-2 c κs = (v-bound (c .before), one-bound (pins-bound (c .before .before .before .before)))
+rounded-share-requires-2 c κs = (v-bound (c .before), one-bound (pins-bound (priced (c .before .before .before))))
 
 returns : tie.Need-returns
 returns c =
     let value = c .before .before in
-    let pins = value .before .before .before in
+    let pins = priced (value .before .before) in
     let pis = pins .before in
     let rsns = pis .before in
-    let a = rsns .before .before .before .before .before .before .before .before .before .args in
+    let a = begin (rsns .before .before .before) .args in
     prices-same (a .curves) (a .header) (a .sums) (rs-is (rsns .before)) (rsns-is rsns) (pis-is pis) (pins-is pins) (value-is value) (c .before .rounded-share .ensures) (c .rounded-share2 .ensures)
 
 pub both-prices-spec : {M : Type 1} → statement M
@@ -138,11 +173,14 @@ both-prices-spec =
     cast-mean
     magnitude-requires
     cast-spread
-    online-reserve-requires
+    twice-online-requires
+    reserve-of-requires
     total-reserve-requires
     online-probability-requires
     offline-probability-requires
-    value-of-reserve-requires
+    sub-higher
+    higher-requires
+    magnitude-requires-2
     add-rounded-share
     rounded-share-requires
     rounded-share-requires-2
