@@ -69,7 +69,8 @@ fn error_of(v: &[i64], runs: u64, sum: i64) -> ReadHour
     }
 }
 
-// An hour whose own lines were read: its runs and the end of the text. The lines of the runs are a part of the text, where positions are moved.
+// An hour whose own lines were read: its runs and the end of the text. The lines of the runs are a part of the text, and a position in the part is moved
+// by where it starts.
 fn runs_at(text: &[u8], next: usize, v: &[i64]) -> ReadHour
     requires { ⌜ (length (now text) ≤ 65536) × (next ≤ length (now text)) × (length (now v) ≡ 13) × (natAbs (value (now v) 12) ≤ 60) × Bounded 100000000 (now v) ⌝ }
     ensures { λ r. ⌜ r ≡ errorAnswer (runsAt (now (text .entry)) (hourOf (now (v .entry))) next) ⌝ }
