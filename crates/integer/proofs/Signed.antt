@@ -7,9 +7,9 @@ use mathlib.Core.Bool.{true, false}
 use lib.Dec.{T}
 use lib.IntN.{ℤ, pos, natAbs}
 use lib.Signed.{leZ, ltZ, _≤ℤ_, _<ℤ_, nonNeg, yes-nonNeg}
-use mir.Syntax.{Width, w64}
+use mir.Syntax.{Width, w32, w64}
 use mir.Val.{Fits, SFits, toZ, ofZ}
-use mir.Facts.{toZ-ofZ, fits-natAbs}
+use mir.Facts.{toZ-ofZ, sfits-widen, fits-natAbs}
 use Rattle.integer.proofs.Order.{ltZ-true, ltZ-false, leZ-true, leZ-false}
 
 -- `if x < y`
@@ -29,6 +29,13 @@ at-most-left x y f g e = leZ-false x y (ap₂ leZ (sym (toZ-ofZ f)) (sym (toZ-of
 -- numbers of equal bits are equal
 pub ofZ-injective : {w : Width} (x y : ℤ) → SFits w x → SFits w y → ofZ w x ≡ ofZ w y → x ≡ y
 ofZ-injective {w} x y f g e = sym (toZ-ofZ f) ∙ ap (toZ w) e ∙ toZ-ofZ g
+
+-- what `x as i64` asks of an i32, and its value
+pub widens : {x : ℤ} → SFits w32 x → SFits w64 (toZ w32 (ofZ w32 x))
+widens f = rw (toZ-ofZ f) (sfits-widen tt f)
+
+pub widened : {x : ℤ} → SFits w32 x → toZ w64 (ofZ w64 (toZ w32 (ofZ w32 x))) ≡ x
+widened f = toZ-ofZ (widens f) ∙ toZ-ofZ f
 
 -- what `x as u64` asks, of the bits of a number that is not negative
 pub cast-asks : (x : ℤ) → SFits w64 x → pos 0 ≤ℤ x → T (nonNeg (toZ w64 (ofZ w64 x))) × Fits w64 (natAbs (toZ w64 (ofZ w64 x)))

@@ -1,7 +1,6 @@
 // Which units are counted on line.
 ghost use mathlib.Core.Path.{_≡_};
 ghost use Rattle.online_units.specs.Online.{isGenOrWind, isRunning, countedOnline};
-use range::wide;
 use resource::Generator;
 use resource::Kind;
 use resource::Status;
@@ -44,5 +43,5 @@ pub fn counted_online(g: Generator) -> bool
     if !is_running(status, g.nonspin) {
         return false;
     }
-    95 * wide(g.lsl) <= 100 * wide(g.net)
+    95 * (g.lsl as i64) <= 100 * (g.net as i64)
 }

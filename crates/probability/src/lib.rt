@@ -4,7 +4,6 @@ ghost use Prim.Native.Nat.{_≤_};
 ghost use lib.IntN.{pos, natAbs, _-ℤ_, _*ℤ_};
 ghost use Rattle.probability.specs.Probability.{onlineProbability, offlineProbability};
 use normal::distribution;
-use range::wide;
 
 // A reserve above this makes the fraction at least 500 whatever X, the mean and the spread: nothing is left of one.
 const FAR: i64 = 1099511627776;
@@ -29,14 +28,14 @@ fn offline_numerator(reserve: i64, floor: i64, mean: i64) -> i64
 pub fn online_probability(reserve: i64, floor: i32, mean: i32, spread: u32) -> u64
     ensures { λ r. ⌜ r ≡ onlineProbability reserve floor mean spread ⌝ }
 {
-    let x = wide(floor);
+    let x = floor as i64;
     if reserve <= x {
         return 1000000000;
     }
     if FAR < reserve {
         return 0;
     }
-    let numerator = online_numerator(reserve, x, wide(mean));
+    let numerator = online_numerator(reserve, x, mean as i64);
     1000000000 - distribution(numerator, 707 * (spread as u64))
 }
 
@@ -44,13 +43,13 @@ pub fn online_probability(reserve: i64, floor: i32, mean: i32, spread: u32) -> u
 pub fn offline_probability(reserve: i64, floor: i32, mean: i32, spread: u32) -> u64
     ensures { λ r. ⌜ r ≡ offlineProbability reserve floor mean spread ⌝ }
 {
-    let x = wide(floor);
+    let x = floor as i64;
     if reserve <= x {
         return 1000000000;
     }
     if FAR < reserve {
         return 0;
     }
-    let numerator = offline_numerator(reserve, x, wide(mean));
+    let numerator = offline_numerator(reserve, x, mean as i64);
     1000000000 - distribution(numerator, spread as u64)
 }

@@ -1,7 +1,5 @@
 // Numbers and the ranges that they lie in.
 ghost use mathlib.Core.Path.{_≡_};
-ghost use Prim.Native.Nat.{_≤_};
-ghost use lib.IntN.{natAbs};
 ghost use Rattle.range.specs.Range.{within};
 
 // Whether a number lies from low to high.
@@ -12,11 +10,4 @@ pub fn is_within(z: i64, low: i64, high: i64) -> bool
         return false;
     }
     z <= high
-}
-
-// A number in twice the width.
-pub fn wide(x: i32) -> i64
-    ensures { λ r. ⌜ (r ≡ x) × (natAbs r ≤ 2147483648) ⌝ }
-{
-    x as i64
 }

@@ -6,7 +6,6 @@ ghost use Rattle.sums.specs.Sums.{partOf};
 use adder::sums::Sums;
 use offline_units::counted_offline;
 use online_units::counted_online;
-use range::wide;
 use resource::Controllable;
 use resource::Generator;
 use resource::Load;
@@ -16,7 +15,7 @@ use resource::Resource;
 fn less(x: i32, y: i32, z: i32) -> i64
     ensures { λ r. ⌜ (r ≡ x -ℤ y -ℤ z) × (natAbs r ≤ 6442450944) ⌝ }
 {
-    wide(x) - wide(y) - wide(z)
+    x as i64 - y as i64 - z as i64
 }
 
 fn generator_part(g: Generator) -> Sums
@@ -26,7 +25,7 @@ fn generator_part(g: Generator) -> Sums
         return Sums {
             generation: less(g.hsl, g.base, g.nonspin),
             controllable: 0,
-            offline: wide(g.nonspin),
+            offline: g.nonspin as i64,
             validated: 0,
             responsive: 0,
         };
@@ -37,7 +36,7 @@ fn generator_part(g: Generator) -> Sums
         return Sums {
             generation: 0,
             controllable: 0,
-            offline: wide(g.hsl),
+            offline: g.hsl as i64,
             validated: 0,
             responsive: 0,
         };
@@ -56,8 +55,8 @@ fn controllable_part(c: Controllable) -> Sums
 {
     Sums {
         generation: 0,
-        controllable: less(c.base, c.lpc, c.nonspin) + wide(c.regup),
-        offline: wide(c.nonspin),
+        controllable: less(c.base, c.lpc, c.nonspin) + c.regup as i64,
+        offline: c.nonspin as i64,
         validated: 0,
         responsive: 0,
     }
@@ -72,7 +71,7 @@ fn load_part(l: Load) -> Sums
             controllable: 0,
             offline: 0,
             validated: less(l.net, l.lpc, 0),
-            responsive: wide(l.rrs),
+            responsive: l.rrs as i64,
         };
     }
     Sums {
@@ -80,7 +79,7 @@ fn load_part(l: Load) -> Sums
         controllable: 0,
         offline: 0,
         validated: 0,
-        responsive: wide(l.rrs),
+        responsive: l.rrs as i64,
     }
 }
 

@@ -3,11 +3,12 @@ use mathlib.Core.Bool.{true}
 use native.Mathlib.Omega.{arith}
 use borrow.Author.Needs.{sfits-of}
 use borrow.Author.Tests.{not-true, not-false}
-use lib.IntN.{pos, _*ℤ_}
+use lib.IntN.{ℤ, pos, _*ℤ_}
 use mir.Facts.{toZ-ofZ}
-use mir.Syntax.{w64}
+use mir.Syntax.{w32, w64}
 use mir.Val.{SFits}
-use Rattle.integer.proofs.Bounds.{abs-fits, abs-mul}
+use Rattle.integer.proofs.Bounds.{abs-fits, fits-abs, abs-mul}
+use Rattle.integer.proofs.Signed.{widens, widened}
 use Rattle.online_units.specs.Online.{isGenOrWind, isRunning, countedOnline}
 use Rattle.online_units.proofs.counted_online.Statement.{statement}
 use Rattle.online_units.proofs.counted_online.Tie as tie
@@ -32,40 +33,37 @@ returns-2 : tie.Need-returns-2
 unfolding countedOnline
 returns-2 c = rw (known (c .before), sym (running (c .before)) ∙ not-true _ (c .if2 .taken))
 
-wide-requires : tie.Need-wide-requires
-wide-requires c κs = tt
+lsl : (c : tie.After-struct-told2) → SFits w32 (c .before .before .before .before .before .before .before .args .g .lsl)
+lsl c = sfits-of (c .struct-told2 .given .1 .1 .1 .0 .1)
 
-lsl-fits : (c : tie.After-wide) → SFits w64 (pos 95 *ℤ c .wide .result)
-lsl-fits c = omega (arith, abs-fits, abs-mul (pos 95) (c .wide .result))
+net : (c : tie.After-struct-told3) → SFits w32 (c .before .before .before .before .before .before .before .before .before .args .g .net)
+net c = sfits-of (c .struct-told3 .given .1 .1 .0 .1)
 
-net-fits : (c : tie.After-wide2) → SFits w64 (pos 100 *ℤ c .wide2 .result)
-net-fits c = omega (arith, abs-fits, abs-mul (pos 100) (c .wide2 .result))
+lsl-fits : {x : ℤ} → SFits w32 x → SFits w64 (pos 95 *ℤ x)
+lsl-fits {x} f = omega (arith, abs-fits, abs-mul (pos 95) x, fits-abs f)
+
+net-fits : {x : ℤ} → SFits w32 x → SFits w64 (pos 100 *ℤ x)
+net-fits {x} f = omega (arith, abs-fits, abs-mul (pos 100) x, fits-abs f)
+
+cast-result : tie.Need-cast-result
+cast-result c = widens (lsl c)
 
 mul-result : tie.Need-mul-result
-mul-result c = rw (toZ-ofZ (sfits-of (c .wide .ok))) (lsl-fits c)
+mul-result c = rw (widened (lsl c)) (lsl-fits (lsl c))
 
-wide-requires-2 : tie.Need-wide-requires-2
-wide-requires-2 c κs = tt
+cast-result-2 : tie.Need-cast-result-2
+cast-result-2 c = widens (net c)
 
 mul-result-2 : tie.Need-mul-result-2
-mul-result-2 c = rw (toZ-ofZ (sfits-of (c .wide2 .ok))) (net-fits c)
+mul-result-2 c = rw (widened (net c)) (net-fits (net c))
 
 returns-3 : tie.Need-returns-3
 unfolding countedOnline
 returns-3 c =
-    let lsl = c .before .before in
-    let ran = lsl .before .before in
+    let low = c .before .before in
+    let ran = low .before .before in
     rw (known (ran .before), sym (running (ran .before)) ∙ not-false _ (ran .if2 .left))
-    (rw (
-      toZ-ofZ {w = w64} {z = lsl .wide .result} (sfits-of (lsl .wide .ok)),
-      toZ-ofZ (lsl-fits lsl),
-      lsl .wide .ensures .0,
-      toZ-ofZ (sfits-of (lsl .before .struct-told2 .given .1 .1 .1 .0 .1)),
-      toZ-ofZ {w = w64} {z = c .wide2 .result} (sfits-of (c .wide2 .ok)),
-      toZ-ofZ (net-fits c),
-      c .wide2 .ensures .0,
-      toZ-ofZ (sfits-of (c .before .struct-told3 .given .1 .1 .0 .1)),
-    ) refl)
+    (rw (widened (lsl low), toZ-ofZ (lsl-fits (lsl low)), widened (net c), toZ-ofZ (net-fits (net c))) refl)
 
 pub counted-online-spec : {M : Type 1} → statement M
 counted-online-spec =
@@ -75,8 +73,8 @@ counted-online-spec =
     returns
     is-running-requires
     returns-2
-    wide-requires
+    cast-result
     mul-result
-    wide-requires-2
+    cast-result-2
     mul-result-2
     returns-3)

@@ -5,7 +5,8 @@ use lib.IntN.{_+ℤ_}
 use mir.Facts.{toZ-ofZ}
 use mir.Syntax.{w32, w64}
 use mir.Val.{SFits}
-use Rattle.integer.proofs.Bounds.{abs-fits, abs-add}
+use Rattle.integer.proofs.Bounds.{abs-fits, fits-abs, abs-add}
+use Rattle.integer.proofs.Signed.{widens, widened}
 use Rattle.sums.specs.Sums.{partOf}
 use Rattle.sums.proofs.controllable_part.Statement.{statement}
 use Rattle.sums.proofs.controllable_part.Tie as tie
@@ -13,22 +14,25 @@ use Rattle.sums.proofs.controllable_part.Tie as tie
 less-requires : tie.Need-less-requires
 less-requires c κs = tt
 
-wide-requires : tie.Need-wide-requires
-wide-requires c κs = tt
+regup : (c : tie.After-struct-told4) → SFits w32 (c .before .before .before .before .before .before .args .c .regup)
+regup c = sfits-of (c .struct-told4 .given .1 .1 .1 .0 .1)
 
-fits : (c : tie.After-wide) → SFits w64 (c .before .before .less .result +ℤ c .wide .result)
-fits c = omega (arith, abs-fits, abs-add (c .before .before .less .result) (c .wide .result))
+fits : (c : tie.After-struct-told4) → SFits w64 (c .before .before .less .result +ℤ c .before .before .before .before .before .before .args .c .regup)
+fits c =
+    let less = c .before .before in
+    omega (arith, abs-fits, abs-add (less .less .result) (less .before .before .before .before .args .c .regup), fits-abs (regup c), less .less .ensures .1)
+
+cast-t3 : tie.Need-cast-t3
+cast-t3 c = widens (regup c)
 
 add-t4 : tie.Need-add-t4
-add-t4 c =
-    rw (
-      toZ-ofZ {w = w64} {z = c .before .before .less .result} (sfits-of (c .before .before .less .ok)),
-      toZ-ofZ {w = w64} {z = c .wide .result} (sfits-of (c .wide .ok)),
-    )
-    (fits c)
+add-t4 c = rw (toZ-ofZ {w = w64} {z = c .before .before .less .result} (sfits-of (c .before .before .less .ok)), widened (regup c)) (fits c)
 
-wide-requires-2 : tie.Need-wide-requires-2
-wide-requires-2 c κs = tt
+nonspin : (c : tie.After-struct-told5) → SFits w32 (c .before .before .before .before .before .before .before .before .args .c .nonspin)
+nonspin c = sfits-of (c .struct-told5 .given .1 .1 .0 .1)
+
+cast-t5 : tie.Need-cast-t5
+cast-t5 c = widens (nonspin c)
 
 returns : tie.Need-returns
 unfolding partOf
@@ -36,20 +40,17 @@ returns c =
     let sum = c .before .before in
     let less = sum .before .before in
     let load = less .before .before .before .before .args .c in
-    let told = c .before .struct-told5 .given in
+    let told = c .struct-told5 .given in
     rw (
       toZ-ofZ {w = w64} {z = less .less .result} (sfits-of (less .less .ok)),
-      toZ-ofZ {w = w64} {z = sum .wide .result} (sfits-of (sum .wide .ok)),
-      toZ-ofZ {w = w64} {z = c .wide2 .result} (sfits-of (c .wide2 .ok)),
+      widened (regup sum),
       toZ-ofZ (fits sum),
+      widened (nonspin c),
       less .less .ensures .0,
-      sum .wide .ensures .0,
-      c .wide2 .ensures .0,
       toZ-ofZ {w = w32} {z = load .base} (sfits-of (told .0 .1)),
       toZ-ofZ {w = w32} {z = load .lpc} (sfits-of (told .1 .0 .1)),
       toZ-ofZ {w = w32} {z = load .nonspin} (sfits-of (told .1 .1 .0 .1)),
-      toZ-ofZ {w = w32} {z = load .regup} (sfits-of (told .1 .1 .1 .0 .1)),
     ) refl
 
 pub controllable-part-spec : {M : Type 1} → statement M
-controllable-part-spec = tie.close (tie.spec less-requires wide-requires add-t4 wide-requires-2 returns)
+controllable-part-spec = tie.close (tie.spec less-requires cast-t3 add-t4 cast-t5 returns)

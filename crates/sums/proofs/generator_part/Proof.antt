@@ -2,6 +2,8 @@ use mathlib.Core.Path.{_≡_, refl, sym, _∙_}
 use borrow.Author.Needs.{sfits-of}
 use mir.Facts.{toZ-ofZ}
 use mir.Syntax.{w32, w64}
+use mir.Val.{SFits}
+use Rattle.integer.proofs.Signed.{widens, widened}
 use Rattle.offline_units.specs.Offline.{countedOffline}
 use Rattle.sums.specs.Sums.{partOf}
 use Rattle.sums.proofs.generator_part.Statement.{statement}
@@ -13,31 +15,36 @@ counted-online-requires c κs = tt
 less-requires : tie.Need-less-requires
 less-requires c κs = tt
 
-wide-requires : tie.Need-wide-requires
-wide-requires c κs = tt
+nonspin : (c : tie.After-struct-told4) → SFits w32 (c .before .before .before .before .before .before .before .before .args .g .nonspin)
+nonspin c = sfits-of (c .struct-told4 .given .1 .1 .1 .1 .1 .1 .0 .1)
+
+cast-t6 : tie.Need-cast-t6
+cast-t6 c = widens (nonspin c)
 
 returns : tie.Need-returns
 unfolding partOf
 returns c =
     let less = c .before .before in
     let g = less .before .before .before .before .before .before .args .g in
-    let told = c .before .struct-told4 .given in
+    let told = c .struct-told4 .given in
     rw (
       toZ-ofZ {w = w64} {z = less .less .result} (sfits-of (less .less .ok)),
-      toZ-ofZ {w = w64} {z = c .wide .result} (sfits-of (c .wide .ok)),
+      widened (nonspin c),
       less .less .ensures .0,
-      c .wide .ensures .0,
       toZ-ofZ {w = w32} {z = g .hsl} (sfits-of (told .1 .1 .1 .1 .0 .1)),
       toZ-ofZ {w = w32} {z = g .base} (sfits-of (told .1 .1 .1 .1 .1 .0 .1)),
-      toZ-ofZ {w = w32} {z = g .nonspin} (sfits-of (told .1 .1 .1 .1 .1 .1 .0 .1)),
+      toZ-ofZ (nonspin c),
       sym (less .before .before .before .before .before .counted-online .ensures) ∙ less .before .before .before .before .if1 .taken,
     ) refl
 
 counted-offline-requires : tie.Need-counted-offline-requires
 counted-offline-requires c κs = tt
 
-wide-requires-2 : tie.Need-wide-requires-2
-wide-requires-2 c κs = tt
+hsl : (c : tie.After-struct-told6) → SFits w32 (c .before .before .before .before .before .before .before .args .g .hsl)
+hsl c = sfits-of (c .struct-told6 .given .1 .1 .1 .1 .0 .1)
+
+cast-t8 : tie.Need-cast-t8
+cast-t8 c = widens (hsl c)
 
 offline : (c : tie.After-counted-offline) → let g = c .before .before .before .before .args .g in
     c .counted-offline .result ≡ countedOffline (g .kind) (g .status) (g .cold30)
@@ -47,11 +54,8 @@ returns-2 : tie.Need-returns-2
 unfolding partOf
 returns-2 c =
     let off = c .before .before .before in
-    let g = off .before .before .before .before .args .g in
     rw (
-      toZ-ofZ {w = w64} {z = c .wide2 .result} (sfits-of (c .wide2 .ok)),
-      c .wide2 .ensures .0,
-      toZ-ofZ {w = w32} {z = g .hsl} (sfits-of (c .before .struct-told6 .given .1 .1 .1 .1 .0 .1)),
+      widened (hsl c),
       sym (off .before .before .before .counted-online .ensures) ∙ off .before .before .if1 .left,
       sym (offline off) ∙ c .before .before .if2 .taken,
     ) refl
@@ -64,4 +68,4 @@ returns-3 c =
 
 pub generator-part-spec : {M : Type 1} → statement M
 generator-part-spec =
-    tie.close (tie.spec counted-online-requires less-requires wide-requires returns counted-offline-requires wide-requires-2 returns-2 returns-3)
+    tie.close (tie.spec counted-online-requires less-requires cast-t6 returns counted-offline-requires cast-t8 returns-2 returns-3)

@@ -1,62 +1,43 @@
 use mathlib.Core.Path.{refl}
 use native.Mathlib.Omega.{arith}
-use borrow.Author.Needs.{sfits-of}
-use lib.IntN.{_-ℤ_}
+use lib.IntN.{ℤ, _-ℤ_}
 use mir.Facts.{toZ-ofZ}
-use mir.Syntax.{w64}
+use mir.Syntax.{w32, w64}
 use mir.Val.{SFits}
-use Rattle.integer.proofs.Bounds.{abs-fits, abs-sub}
+use Rattle.integer.proofs.Bounds.{abs-fits, fits-abs, abs-sub}
+use Rattle.integer.proofs.Signed.{widens, widened}
 use Rattle.sums.proofs.less.Statement.{statement}
 use Rattle.sums.proofs.less.Tie as tie
 
-wide-requires : tie.Need-wide-requires
-wide-requires c κs = tt
+two-fit : {x y : ℤ} → SFits w32 x → SFits w32 y → SFits w64 (x -ℤ y)
+two-fit {x} {y} f g = omega (arith, abs-fits, abs-sub x y, fits-abs f, fits-abs g)
 
-wide-requires-2 : tie.Need-wide-requires-2
-wide-requires-2 c κs = tt
+three-fit : {x y z : ℤ} → SFits w32 x → SFits w32 y → SFits w32 z → SFits w64 (x -ℤ y -ℤ z)
+three-fit {x} {y} {z} f g h = omega (arith, abs-fits, abs-sub x y, abs-sub (x -ℤ y) z, fits-abs f, fits-abs g, fits-abs h)
 
-two-fit : (c : tie.After-wide2) → SFits w64 (c .before .wide .result -ℤ c .wide2 .result)
-two-fit c = omega (arith, abs-fits, abs-sub (c .before .wide .result) (c .wide2 .result))
+cast-result : tie.Need-cast-result
+cast-result c = widens (c .fits .x)
+
+cast-result-2 : tie.Need-cast-result-2
+cast-result-2 c = widens (c .fits .y)
 
 sub-result : tie.Need-sub-result
-sub-result c =
-    rw (toZ-ofZ {z = c .before .wide .result} (sfits-of (c .before .wide .ok)), toZ-ofZ {z = c .wide2 .result} (sfits-of (c .wide2 .ok))) (two-fit c)
+sub-result c = let f = c .fits in rw (widened (f .x), widened (f .y)) (two-fit (f .x) (f .y))
 
-wide-requires-3 : tie.Need-wide-requires-3
-wide-requires-3 c κs = tt
-
-three-fit : (c : tie.After-wide3) → SFits w64 (c .before .before .wide .result -ℤ c .before .wide2 .result -ℤ c .wide3 .result)
-three-fit c =
-    let x = c .before .before .wide .result in
-    let y = c .before .wide2 .result in
-    omega (arith, abs-fits, abs-sub x y, abs-sub (x -ℤ y) (c .wide3 .result))
+cast-result-3 : tie.Need-cast-result-3
+cast-result-3 c = widens (c .fits .z)
 
 sub-result-2 : tie.Need-sub-result-2
 sub-result-2 c =
-    rw (
-      toZ-ofZ {z = c .before .before .wide .result} (sfits-of (c .before .before .wide .ok)),
-      toZ-ofZ {z = c .before .wide2 .result} (sfits-of (c .before .wide2 .ok)),
-      toZ-ofZ {z = c .wide3 .result} (sfits-of (c .wide3 .ok)),
-      toZ-ofZ (two-fit (c .before)),
-    )
-    (three-fit c)
+    let f = c .fits in
+    rw (widened (f .x), widened (f .y), toZ-ofZ (two-fit (f .x) (f .y)), widened (f .z)) (three-fit (f .x) (f .y) (f .z))
 
 returns : tie.Need-returns
 returns c =
-    let x = c .before .before .wide in
-    let y = c .before .wide2 in
-    let z = c .wide3 in
-    let fits = c .before .before .before .fits in
-    rw (
-      toZ-ofZ {z = x .result} (sfits-of (x .ok)),
-      toZ-ofZ {z = y .result} (sfits-of (y .ok)),
-      toZ-ofZ {z = z .result} (sfits-of (z .ok)),
-      toZ-ofZ (two-fit (c .before)),
-      toZ-ofZ (three-fit c),
-    ) (
-      rw (x .ensures .0, y .ensures .0, z .ensures .0, toZ-ofZ (fits .x), toZ-ofZ (fits .y), toZ-ofZ (fits .z)) refl,
-      omega (arith, abs-sub (x .result) (y .result), abs-sub (x .result -ℤ y .result) (z .result)),
-    )
+    let f = c .fits in
+    let a = c .args in
+    rw (widened (f .x), widened (f .y), toZ-ofZ (two-fit (f .x) (f .y)), widened (f .z), toZ-ofZ (three-fit (f .x) (f .y) (f .z)))
+    (refl, omega (arith, abs-sub (a .x) (a .y), abs-sub (a .x -ℤ a .y) (a .z), fits-abs (f .x), fits-abs (f .y), fits-abs (f .z)))
 
 pub less-spec : {M : Type 1} → statement M
-less-spec = tie.close (tie.spec wide-requires wide-requires-2 sub-result wide-requires-3 sub-result-2 returns)
+less-spec = tie.close (tie.spec cast-result cast-result-2 sub-result cast-result-3 sub-result-2 returns)
