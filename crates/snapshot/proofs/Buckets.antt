@@ -1,61 +1,44 @@
--- Laws on ids: their buckets, their comparison, and the table of those above.
-use Prim.Native.Nat.{ℕ, zero, suc, _+_, _-_, _*_, _%_, _≤_, _<_}
+-- Laws on ids: their hashes, their comparison, and the table of those above.
+use Prim.Native.Nat.{ℕ, zero, suc, _+_, _-_, _*_, _/_, _%_, _≤_, _<_}
 use native.Mathlib.Numerals.{add-one}
+use native.Mathlib.Nat.{mod-lt}
 use native.Mathlib.Omega.{arith}
 use mathlib.Core.Path.{_≡_, refl, ap, ap₂, sym, _∙_}
 use mathlib.Core.Bool.{Bool, true, false, _||_}
 use mathlib.Core.List.{List, [], _∷_}
-use borrow.Author.Tests.{eq-eqb, ne-eqb, eqb-true, eqb-false, ltb-true, ltb-false}
+use borrow.Author.Tests.{eq-eqb, eqb-true, eqb-false, ltb-true, ltb-false}
 use lib.Dec.{eqb, ltb}
-use lib.ListN.{length, drop, getD, set, replicate, drop-of-length-le, length-set, length-replicate, getD-replicate}
-use lib.Seq.{drop-cons, getD-set-same, getD-set-other}
+use lib.ListN.{length, take, drop, getD, set, replicate, drop-of-length-le, length-set, length-replicate}
+use lib.Seq.{drop-cons, drop-drop, length-take-le, getD-set-same, getD-set-other}
 use Rattle.text.specs.Choice.{pick}
-use Rattle.piece.specs.Piece.{part}
+use Rattle.line.specs.Line.{lineLength, begins}
+use Rattle.line.proofs.Lines.{line-ends, line-goes-on, line-after, line-within}
 use Rattle.snapshot.specs.Snapshot.{sameBytes, standsIn}
-use Rattle.snapshot.specs.Ids.{bucketFrom, bucketOf, idOf, idsAbove, Latest, IdTable, Room}
+use Rattle.snapshot.specs.Ids.{hashFrom, hashOf, bucketOf, idFrom, idIn, Slots, Others, SlotOf, Held, IdTable, Room}
 
--- ---- the bucket of an id, byte by byte
+-- ---- the hash of an id, byte by byte
 
-pub record BucketFrom (id : List ℕ) (bucket i : ℕ) : Type 0 where
+pub record HashFrom (id : List ℕ) (hash i : ℕ) : Type 0 where
   pub within : i ≤ length id
-  pub small : bucket < 4096
-  pub rest : bucketOf id ≡ bucketFrom bucket (drop i id)
+  pub small : hash < 4294967296
+  pub rest : hashOf id ≡ hashFrom hash (drop i id)
 
-pub bucket-start : (id : List ℕ) → BucketFrom id 0 0
-bucket-start id = record { within = omega arith; small = omega arith; rest = refl }
+pub hash-start : (id : List ℕ) → HashFrom id 0 0
+hash-start id = record { within = omega arith; small = omega arith; rest = refl }
 
-module _ {id : List ℕ} {bucket i : ℕ} (from : BucketFrom id bucket i) where
-  pub bucket-more : i < length id → BucketFrom id ((bucket * 31 + getD id i 0) % 4096) (i + 1)
-  unfolding bucketFrom
-  bucket-more h = record { within = omega arith; small = omega arith; rest = rw (from .rest, add-one, drop-cons id i 0 h) }
+module _ {id : List ℕ} {hash i : ℕ} (from : HashFrom id hash i) where
+  pub hash-more : i < length id → HashFrom id ((hash + getD id i 0) * 40503 % 4294967296) (i + 1)
+  unfolding hashFrom
+  hash-more h = record { within = omega arith; small = omega arith; rest = rw (from .rest, add-one, drop-cons id i 0 h) }
 
-  pub bucket-over : length id ≤ i → bucket ≡ bucketOf id
-  unfolding bucketFrom
-  bucket-over h = rw (from .rest, drop-of-length-le id {i = i} h)
+  pub hash-over : length id ≤ i → hash ≡ hashOf id
+  unfolding hashFrom
+  hash-over h = rw (from .rest, drop-of-length-le id {i = i} h)
 
-bucket-below : (front : ℕ) (id : List ℕ) → front < 4096 → bucketFrom front id < 4096
-unfolding bucketFrom
-bucket-below front [] h = h
-bucket-below front (byte ∷ rest) h = bucket-below ((front * 31 + byte) % 4096) rest (omega arith)
-
-pub bucket-small : (id : List ℕ) → bucketOf id < 4096
-bucket-small id = bucket-below 0 id (omega arith)
-
--- ---- two ids, byte by byte
-
-pub same-length : (id other : List ℕ) → (length id ≡ length other → ⊥) → sameBytes id other ≡ false
-unfolding sameBytes
-same-length [] [] h = absurd (h refl)
-same-length [] (byte ∷ rest) h = refl
-same-length (byte ∷ rest) [] h = refl
-same-length (byte ∷ rest) (another ∷ others) h = go (eqb byte another) (same-length rest others (λ e. h (ap suc e)))
-  where
-    go : (b : Bool) → sameBytes rest others ≡ false → pick b (sameBytes rest others) false ≡ false
-    go true e = e
-    go false e = refl
+-- ---- two ids
 
 -- the same bytes are the same id
-pub same-is : (id other : List ℕ) → sameBytes id other ≡ true → id ≡ other
+same-is : (id other : List ℕ) → sameBytes id other ≡ true → id ≡ other
 unfolding sameBytes
 same-is [] [] e = refl
 same-is [] (byte ∷ rest) e = cc
@@ -68,242 +51,243 @@ same-is (byte ∷ rest) (another ∷ others) e = go (eqb byte another) refl e (s
     go true p e same = ap₂ _∷_ (eqb-true byte another p) (same e)
     go false p e same = cc
 
-pub record SameFrom (id other : List ℕ) (i : ℕ) : Type 0 where
-  pub within : i ≤ length id
-  pub long : length id ≡ length other
-  pub rest : sameBytes id other ≡ sameBytes (drop i id) (drop i other)
+pub same-self : (id : List ℕ) → sameBytes id id ≡ true
+unfolding sameBytes
+same-self [] = refl
+same-self (byte ∷ rest) = rw (eq-eqb byte byte refl) (same-self rest)
 
-pub same-start : (id other : List ℕ) → length id ≡ length other → SameFrom id other 0
-same-start id other e = record { within = omega arith; long = e; rest = refl }
-
-module _ {id other : List ℕ} {i : ℕ} (from : SameFrom id other i) where
-  pub same-other : i < length id → (getD id i 0 ≡ getD other i 0 → ⊥) → false ≡ sameBytes id other
-  unfolding sameBytes
-  same-other h n =
-      let l : i < length other = omega (arith, from .long) in
-      rw (from .rest, drop-cons id i 0 h, drop-cons other i 0 l, ne-eqb (getD id i 0) (getD other i 0) n)
-
-  pub same-more : i < length id → getD id i 0 ≡ getD other i 0 → SameFrom id other (i + 1)
-  unfolding sameBytes
-  same-more h e =
-      let l : i < length other = omega (arith, from .long) in
-      record {
-        within = omega arith;
-        long = from .long;
-        rest = rw (from .rest, add-one, drop-cons id i 0 h, drop-cons other i 0 l, eq-eqb (getD id i 0) (getD other i 0) e);
-      }
-
-  pub same-over : length id ≤ i → true ≡ sameBytes id other
-  unfolding sameBytes
-  same-over h =
-      let l : length other ≤ i = omega (arith, from .long) in
-      rw (from .rest, drop-of-length-le id {i = i} h, drop-of-length-le other {i = i} l)
-
--- ---- an id among those above
-
-or-true : (b : Bool) → b || true ≡ true
-or-true true = refl
-or-true false = refl
-
-module _ (text places id : List ℕ) where
-  pub stands-none : (n : ℕ) → ((k : ℕ) → k < n → sameBytes id (idOf text places k) ≡ false) → standsIn id (idsAbove text places n) ≡ false
-  unfolding standsIn idsAbove
-  stands-none zero h = refl
-  stands-none (suc n) h = rw (h n (omega arith)) (stands-none n (λ k l. h k (omega arith)))
-
-  pub stands-one : (n k : ℕ) → k < n → sameBytes id (idOf text places k) ≡ true → standsIn id (idsAbove text places n) ≡ true
-  unfolding standsIn idsAbove
-  stands-one zero k h e = absurd (omega arith)
-  stands-one (suc n) k h e = go (eqb k n) refl (λ l. stands-one n k l e)
-    where
-      go :
-          (b : Bool) → eqb k n ≡ b → (k < n → standsIn id (idsAbove text places n) ≡ true) →
-          sameBytes id (idOf text places n) || standsIn id (idsAbove text places n) ≡ true
-      go true p rest = rw (← eqb-true k n p, e)
-      go false p rest = let d = eqb-false k n p in rw (rest (omega arith)) (or-true (sameBytes id (idOf text places n)))
-
--- the ids from a link on are others
-pub record NoneFrom (text places id : List ℕ) (n link : ℕ) : Type 0 where
-  pub within : link ≤ n
-  pub others : (k : ℕ) → link ≤ k → k < n → sameBytes id (idOf text places k) ≡ false
-  pub same : (k : ℕ) → link ≡ suc k → bucketOf (idOf text places k) ≡ bucketOf id
-
--- ids of other buckets are others
-other-bucket : (id other : List ℕ) → (bucketOf other ≡ bucketOf id → ⊥) → sameBytes id other ≡ false
-other-bucket id other n = go (sameBytes id other) refl
+-- other ids have other bytes
+other-bytes : (id other : List ℕ) → (id ≡ other → ⊥) → sameBytes id other ≡ false
+other-bytes id other n = go (sameBytes id other) refl
   where
     go : (b : Bool) → sameBytes id other ≡ b → b ≡ false
-    go true e = absurd (n (ap bucketOf (sym (same-is id other e))))
+    go true e = absurd (n (same-is id other e))
     go false e = refl
 
-module _ {text links places : List ℕ} {n : ℕ} (table : IdTable text links places n) (id : List ℕ) where
-  -- at the head of its bucket
-  pub none-start : NoneFrom text places id n (getD links (bucketOf id) 0)
-  none-start =
-      let l = table .latest (bucketOf id) (bucket-small id) in
-      record { within = l .within; others = λ k from below. other-bucket id (idOf text places k) (l .others k from below); same = l .same }
+begins-self : (id : List ℕ) → begins id id ≡ true
+unfolding begins
+begins-self [] = refl
+begins-self (byte ∷ rest) = rw (eq-eqb byte byte refl) (begins-self rest)
 
-  module _ {link : ℕ} (from : NoneFrom text places id n link) (some : 0 < link) where
-    -- one link on
-    pub none-more : sameBytes id (idOf text places (link - 1)) ≡ false → NoneFrom text places id n (getD links (4096 + (link - 1)) 0)
-    none-more e =
-        let w = from .within in
-        let l = table .linked (link - 1) (omega arith) in
-        let bucket = from .same (link - 1) (omega arith) in
-        let lw = l .within in
-        record {
-          within = omega arith;
-          others = λ k from-link below. go k (ltb k (link - 1)) refl (eqb k (link - 1)) refl from-link below l bucket;
-          same = λ k is. l .same k is ∙ bucket;
-        }
-      where
-        go :
-            (k : ℕ) (less : Bool) → ltb k (link - 1) ≡ less → (here : Bool) → eqb k (link - 1) ≡ here → getD links (4096 + (link - 1)) 0 ≤ k → k < n →
-            Latest text places (bucketOf (idOf text places (link - 1))) (link - 1) (getD links (4096 + (link - 1)) 0) →
-            bucketOf (idOf text places (link - 1)) ≡ bucketOf id → sameBytes id (idOf text places k) ≡ false
-        go k true p here q from-link below l bucket =
-            other-bucket id (idOf text places k) (λ b. l .others k from-link (ltb-true k (link - 1) p) (b ∙ sym bucket))
-        go k false p true q from-link below l bucket = rw (eqb-true k (link - 1) q) e
-        go k false p false q from-link below l bucket =
-            let a = ltb-false k (link - 1) p in
-            let d = eqb-false k (link - 1) q in
-            from .others k (omega arith) below
+-- what begins with an id and is as long is the same id
+begins-whole : (id other : List ℕ) → begins id other ≡ true → length id ≡ length other → id ≡ other
+unfolding begins
+begins-whole [] [] b e = refl
+begins-whole [] (byte ∷ rest) b e = absurd (omega arith)
+begins-whole (byte ∷ rest) [] b e = absurd (omega arith)
+begins-whole (byte ∷ rest) (another ∷ others) b e = go (eqb another byte) refl b (λ t. begins-whole rest others t (omega arith))
+  where
+    go :
+        (same : Bool) → eqb another byte ≡ same → pick same (begins rest others) false ≡ true → (begins rest others ≡ true → rest ≡ others) →
+        (byte ∷ rest) ≡ (another ∷ others)
+    go true p b whole = ap₂ _∷_ (sym (eqb-true another byte p)) (whole b)
+    go false p b whole = cc
 
-    -- each link leads to an earlier id
-    pub none-less : getD links (4096 + (link - 1)) 0 < link
-    none-less =
-        let w = from .within in
-        let l = table .linked (link - 1) (omega arith) .within in
-        omega arith
+-- an id held against the one that starts at a position
+module _ (text id : List ℕ) (start : ℕ) where
+  pub id-other : begins id (idFrom text start) ≡ false → sameBytes id (idFrom text start) ≡ false
+  id-other b = other-bytes id (idFrom text start) (λ e. differs (ap (begins id) e ∙ b))
+    where
+      differs : begins id id ≡ false → ⊥
+      differs f = let t = begins-self id in let z : _≡_ {A = ℕ} 0 1 = cc in omega arith
 
-    pub none-found : sameBytes id (idOf text places (link - 1)) ≡ true → true ≡ standsIn id (idsAbove text places n)
-    none-found e = let w = from .within in sym (stands-one text places id n (link - 1) (omega arith) e)
+  module _ (ended : start + lineLength (drop start text) < length text) (b : begins id (idFrom text start) ≡ true) where
+    after : lineLength (drop start text) ≡ length id + lineLength (drop (start + length id) text)
+    after = rw (drop-drop (length id) start text) at (line-after id (drop start text) b)
 
-  pub none-over : {link : ℕ} → NoneFrom text places id n link → link ≤ 0 → false ≡ standsIn id (idsAbove text places n)
-  none-over from h = sym (stands-none text places id n (λ k below. from .others k (omega arith) below))
+    pub id-within : start + length id < length text
+    id-within = omega (arith, after)
 
--- ---- one more id in the table
+    id-long : length (idFrom text start) ≡ lineLength (drop start text)
+    id-long = length-take-le (lineLength (drop start text)) (drop start text) (line-within (drop start text))
 
--- the places with those of one id more
-abbrev placed : List ℕ → ℕ → ℕ → ℕ → List ℕ
-placed places n start end = set (set places (2 * n) start) (2 * n + 1) end
+    pub id-same : getD text (start + length id) 0 ≡ 10 → sameBytes id (idFrom text start) ≡ true
+    id-same e =
+        let l : length id ≡ length (idFrom text start) = omega (arith, after, id-long, line-ends text (start + length id) id-within e) in
+        rw (← begins-whole id (idFrom text start) b l) (same-self id)
 
-module _ (text places : List ℕ) (n start end : ℕ) (p-room : 2 * n + 1 < length places) where
-  place-kept : (i : ℕ) → i < 2 * n → getD (placed places n start end) i 0 ≡ getD places i 0
-  place-kept i below =
-      rw (
-        getD-set-other (set places (2 * n) start) (2 * n + 1) i end 0 (λ e. omega arith),
-        getD-set-other places (2 * n) i start 0 (λ e. omega arith),
-      )
+    pub id-longer : (getD text (start + length id) 0 ≡ 10 → ⊥) → sameBytes id (idFrom text start) ≡ false
+    id-longer n =
+        other-bytes id (idFrom text start)
+        (λ e. omega (arith, after, id-long, ap length e, line-goes-on text (start + length id) id-within n))
 
-  id-kept : (k : ℕ) → k < n → idOf text (placed places n start end) k ≡ idOf text places k
-  id-kept k below = rw (place-kept (2 * k) (omega arith), place-kept (2 * k + 1) (omega arith))
+-- ---- the slot of an id
 
-  pub id-new : idOf text (placed places n start end) n ≡ part text start end
-  id-new =
-      let within : 2 * n < length places = omega arith in
-      let last : 2 * n + 1 < length (set places (2 * n) start) = simp length-set p-room in
-      rw (
-        getD-set-other (set places (2 * n) start) (2 * n + 1) (2 * n) end 0 (λ e. omega arith),
-        getD-set-same places (2 * n) start 0 within,
-        getD-set-same (set places (2 * n) start) (2 * n + 1) end 0 last,
-      )
-
-  above-kept : (m : ℕ) → m ≤ n → idsAbove text (placed places n start end) m ≡ idsAbove text places m
-  unfolding idsAbove
-  above-kept zero h = refl
-  above-kept (suc m) h = ap₂ _∷_ (id-kept m (omega arith)) (above-kept m (omega arith))
-
-  pub above-new : idsAbove text (placed places n start end) (n + 1) ≡ part text start end ∷ idsAbove text places n
-  unfolding idsAbove
-  above-new = rw (add-one n) (ap₂ _∷_ id-new (above-kept n (omega arith)))
-
-  latest-kept : (bucket m link : ℕ) → m ≤ n → Latest text places bucket m link → Latest text (placed places n start end) bucket m link
-  latest-kept bucket m link h l =
+module _ {text starts : List ℕ} (slots : Slots text starts) (id : List ℕ) where
+  pub others-start : Others text starts id (bucketOf starts id)
+  others-start =
+      let below = mod-lt (hashOf id) (slots .buckets) in
       record {
-        within = l .within;
-        others = λ k from below is. l .others k from below (ap bucketOf (sym (id-kept k (omega arith))) ∙ is);
-        same = λ k is. let w = l .within in ap bucketOf (id-kept k (omega arith)) ∙ l .same k is;
+        within = omega arith;
+        behind = omega arith;
+        filled = λ k from up-to. omega arith;
+        others = λ k from up-to. absurd (omega arith);
       }
 
-  module _ {links : List ℕ} (table : IdTable text links places n) (l-room : 4096 + n < length links) (bucket : ℕ) (is-bucket : bucket ≡ bucketOf (part text start end)) where
-    abbrev links′ : List ℕ
-    links′ = set (set links (4096 + n) (getD links bucket 0)) bucket (n + 1)
-
-    small : bucket < 4096
-    small = rw is-bucket (bucket-small (part text start end))
-
-    buckets-more : (b : ℕ) → b < 4096 → Latest text (placed places n start end) b (n + 1) (getD links′ b 0)
-    buckets-more b b-small = go (eqb b bucket) refl
+  module _ {slot : ℕ} (so-far : Others text starts id slot) (some : 0 < getD starts slot 0) where
+    -- the last slot is empty
+    pub slot-next : slot + 1 < length starts
+    slot-next = go (eqb slot (length starts - 1)) refl
       where
-        here : bucket < length (set links (4096 + n) (getD links bucket 0))
-        here = simp length-set (omega (arith, small))
+        go : (b : Bool) → eqb slot (length starts - 1) ≡ b → slot + 1 < length starts
+        go true p = let e = eqb-true slot (length starts - 1) p in let z : getD starts slot 0 ≡ 0 = rw e (slots .last) in omega arith
+        go false p = let d = eqb-false slot (length starts - 1) p in let w = so-far .within in omega arith
 
-        go : (same : Bool) → eqb b bucket ≡ same → Latest text (placed places n start end) b (n + 1) (getD links′ b 0)
-        go true p =
-            rw (eqb-true b bucket p, getD-set-same (set links (4096 + n) (getD links bucket 0)) bucket (n + 1) 0 here)
-            (record {
-              within = omega arith;
-              others = λ k from below is. omega arith;
-              same = λ k is. let at : k ≡ n = omega arith in rw at (ap bucketOf id-new ∙ sym is-bucket);
-            })
-        go false p =
-            let d = eqb-false b bucket p in
-            let old = latest-kept b n (getD links b 0) (omega arith) (table .latest b b-small) in
-            let w = old .within in
-            rw (
-              getD-set-other (set links (4096 + n) (getD links bucket 0)) bucket b (n + 1) 0 d,
-              getD-set-other links (4096 + n) b (getD links bucket 0) 0 (λ e. omega arith),
-            )
-            (record { within = omega arith; others = λ k from below is. other k (eqb k n) refl from below is old d; same = old .same })
-          where
-            other :
-                (k : ℕ) (last : Bool) → eqb k n ≡ last → getD links b 0 ≤ k → k < n + 1 → bucketOf (idOf text (placed places n start end) k) ≡ b →
-                Latest text (placed places n start end) b n (getD links b 0) → (b ≡ bucket → ⊥) → ⊥
-            other k true q from below is old d =
-                d (sym is ∙ ap (λ (m : ℕ). bucketOf (idOf text (placed places n start end) m)) (eqb-true k n q) ∙ ap bucketOf id-new ∙ sym is-bucket)
-            other k false q from below is old d = let e = eqb-false k n q in old .others k from (omega arith) is
-
-    links-more :
-        (k : ℕ) → k < n + 1 → Latest text (placed places n start end) (bucketOf (idOf text (placed places n start end) k)) k (getD links′ (4096 + k) 0)
-    links-more k below =
-        rw (getD-set-other (set links (4096 + n) (getD links bucket 0)) bucket (4096 + k) (n + 1) 0 (λ e. omega (arith, small))) (go (eqb k n) refl)
-      where
-        go :
-            (last : Bool) → eqb k n ≡ last →
-            Latest text (placed places n start end) (bucketOf (idOf text (placed places n start end) k)) k
-            (getD (set links (4096 + n) (getD links bucket 0)) (4096 + k) 0)
-        go true p =
-            rw (eqb-true k n p, getD-set-same links (4096 + n) (getD links bucket 0) 0 l-room, id-new, ← is-bucket)
-            (latest-kept bucket n (getD links bucket 0) (omega arith) (table .latest bucket small))
-        go false p =
-            let d = eqb-false k n p in
-            rw (getD-set-other links (4096 + n) (4096 + k) (getD links bucket 0) 0 (λ e. omega arith), id-kept k (omega arith))
-            (latest-kept (bucketOf (idOf text places k)) k (getD links (4096 + k) 0) (omega arith) (table .linked k (omega arith)))
-
-    pub table-more : IdTable text links′ (placed places n start end) (n + 1)
-    table-more =
+    pub others-more : sameBytes id (idIn text starts slot) ≡ false → Others text starts id (slot + 1)
+    others-more other =
         record {
-          links-room = simp length-set (omega arith);
-          places-room = simp length-set (omega arith);
-          latest = buckets-more;
-          linked = links-more;
+          within = slot-next;
+          behind = omega (arith, so-far .behind);
+          filled = λ k from up-to. fill k from up-to (eqb k slot) refl;
+          others = λ k from up-to. differ k from up-to (eqb k slot) refl;
         }
+      where
+        fill : (k : ℕ) → bucketOf starts id ≤ k → k < slot + 1 → (b : Bool) → eqb k slot ≡ b → 0 < getD starts k 0
+        fill k from up-to true p = rw (eqb-true k slot p) some
+        fill k from up-to false p = let d = eqb-false k slot p in so-far .filled k from (omega arith)
+
+        differ : (k : ℕ) → bucketOf starts id ≤ k → k < slot + 1 → (b : Bool) → eqb k slot ≡ b → sameBytes id (idIn text starts k) ≡ false
+        differ k from up-to true p = rw (eqb-true k slot p) other
+        differ k from up-to false p = let d = eqb-false k slot p in so-far .others k from (omega arith)
+
+-- ---- the table of the ids above
+
+or-left : (a b : Bool) → b ≡ true → a || b ≡ true
+or-left true b e = refl
+or-left false b e = e
+
+module _ {text starts : List ℕ} {above : List (List ℕ)} (table : IdTable text starts above) where
+  pub table-slots : length text ≤ 1048576 → length starts / 2 + length above < length starts → Slots text starts
+  table-slots short h = record { short = short; buckets = table .buckets; ended = table .ended; last = table .empty (length starts - 1) (omega arith) }
+
+  module _ {id : List ℕ} {slot : ℕ} (its : SlotOf text starts id slot) where
+    -- an id whose slot is filled stands above
+    pub slot-filled : 0 < getD starts slot 0 → standsIn id above ≡ true
+    slot-filled some = rw (same-is id (idIn text starts slot) (its .same some)) (table .known slot some)
+
+    module _ (none : getD starts slot 0 ≤ 0) where
+      -- any other does not
+      pub slot-empty : standsIn id above ≡ false
+      slot-empty = go (standsIn id above) refl
+        where
+          held : Held text starts id → ⊥
+          held h = at (ltb (h .slot) slot) refl
+            where
+              at : (b : Bool) → ltb (h .slot) slot ≡ b → ⊥
+              at true p =
+                  let other = its .before .others (h .slot) (h .behind) (ltb-true (h .slot) slot p) in
+                  let same : sameBytes id (idIn text starts (h .slot)) ≡ true = rw (h .same) (same-self id) in
+                  let z : _≡_ {A = ℕ} 0 1 = cc in
+                  omega arith
+              at false p = let some = h .filled slot (its .before .behind) (ltb-false (h .slot) slot p) in omega arith
+
+          go : (b : Bool) → standsIn id above ≡ b → b ≡ false
+          go true e = absurd (held (table .held id e))
+          go false e = refl
+
+      -- it is due there
+      module _ (start : ℕ) (some : 0 < start) (ended : start + lineLength (drop start text) < length text) (is : idFrom text start ≡ id) where
+        abbrev starts′ : List ℕ
+        starts′ = set starts slot start
+
+        here : getD starts′ slot 0 ≡ start
+        here = getD-set-same starts slot start 0 (its .before .within)
+
+        elsewhere : (k : ℕ) → (k ≡ slot → ⊥) → getD starts′ k 0 ≡ getD starts k 0
+        elsewhere k d = getD-set-other starts slot k start 0 d
+
+        long : length starts′ ≡ length starts
+        long = length-set starts slot start
+
+        -- a filled slot is the new one or was filled
+        filled-case : (P : ℕ → Type 0) → P start → ((k : ℕ) → 0 < getD starts k 0 → P (getD starts k 0)) → (k : ℕ) → 0 < getD starts′ k 0 → P (getD starts′ k 0)
+        filled-case P new old k = go (eqb k slot) refl
+          where
+            go : (b : Bool) → eqb k slot ≡ b → 0 < getD starts′ k 0 → P (getD starts′ k 0)
+            go true p = rw (eqb-true k slot p, here) (λ h. new)
+            go false p = rw (elsewhere k (eqb-false k slot p)) (old k)
+
+        -- and what was filled is filled
+        apart : (k : ℕ) → 0 < getD starts k 0 → k ≡ slot → ⊥
+        apart k h e = omega (arith, ap (λ (j : ℕ). getD starts j 0) e)
+
+        still : (k : ℕ) → 0 < getD starts k 0 → 0 < getD starts′ k 0
+        still k h = rw (elsewhere k (apart k h)) h
+
+        -- the new id and the earlier ones are found
+        new-held : Held text starts′ id
+        new-held =
+            record {
+              slot = slot;
+              filled = λ k from up-to. fill k (rw long at from) up-to (eqb k slot) refl;
+              behind = rw long (its .before .behind);
+              same = rw here is;
+            }
+          where
+            fill : (k : ℕ) → bucketOf starts id ≤ k → k ≤ slot → (b : Bool) → eqb k slot ≡ b → 0 < getD starts′ k 0
+            fill k from up-to true p = rw (eqb-true k slot p, here) some
+            fill k from up-to false p = let d = eqb-false k slot p in still k (its .before .filled k from (omega arith))
+
+        old-held : {other : List ℕ} → Held text starts other → Held text starts′ other
+        old-held h =
+            record {
+              slot = h .slot;
+              filled = λ k from up-to. still k (h .filled k (rw long at from) up-to);
+              behind = rw long (h .behind);
+              same = rw (elsewhere (h .slot) (apart (h .slot) (h .filled (h .slot) (h .behind) (omega arith)))) (h .same);
+            }
+
+        -- its slot is a bucket or follows a filled one
+        slot-low : slot < length starts / 2 + (length above + 1)
+        slot-low = go (ltb slot (length starts / 2 + (length above + 1))) refl
+          where
+            below : bucketOf starts id < length starts / 2
+            below = mod-lt (hashOf id) (table .buckets)
+
+            go : (b : Bool) → ltb slot (length starts / 2 + (length above + 1)) ≡ b → slot < length starts / 2 + (length above + 1)
+            go true p = ltb-true slot (length starts / 2 + (length above + 1)) p
+            go false p =
+                let far = ltb-false slot (length starts / 2 + (length above + 1)) p in
+                let some = its .before .filled (slot - 1) (omega (arith, below)) (omega arith) in
+                let none = table .empty (slot - 1) (omega arith) in
+                absurd (omega arith)
+
+        pub table-more : IdTable text starts′ (id ∷ above)
+        unfolding standsIn
+        table-more =
+            record {
+              buckets = rw long (table .buckets);
+              ended = filled-case (λ (s : ℕ). s + lineLength (drop s text) < length text) ended (table .ended);
+              known =
+                  filled-case (λ (s : ℕ). standsIn (idFrom text s) (id ∷ above) ≡ true) (rw (is, same-self id))
+                  (λ k h. or-left (sameBytes (idIn text starts k) id) (standsIn (idIn text starts k) above) (table .known k h));
+              held = λ other e. held other (sameBytes other id) refl e;
+              empty = λ k far. rw (elsewhere k (λ e. omega (arith, slot-low, long))) (table .empty k (omega (arith, long)));
+            }
+          where
+            held : (other : List ℕ) (b : Bool) → sameBytes other id ≡ b → b || standsIn other above ≡ true → Held text starts′ other
+            held other true p e = rw (same-is other id p) new-held
+            held other false p e = old-held (table .held other e)
 
 -- ---- a table with no ids
 
-pub table-none : (text places : List ℕ) (long : ℕ) → 4096 ≤ long → IdTable text (replicate long 0) places 0
-table-none text places long h =
+none-filled : (long slot : ℕ) → _≡_ {A = ℕ} (getD (replicate long 0) slot 0) 0
+none-filled zero slot = refl
+none-filled (suc long) zero = refl
+none-filled (suc long) (suc slot) = none-filled long slot
+
+pub table-none : (text : List ℕ) (long : ℕ) → 2 ≤ long → IdTable text (replicate long 0) []
+unfolding standsIn
+table-none text long h =
     record {
-      links-room = simp length-replicate (omega arith);
-      places-room = omega arith;
-      latest = λ b small.
-          rw (getD-replicate {A = ℕ} long b 0 0 (omega arith))
-          (record { within = omega arith; others = λ k from below is. omega arith; same = λ k is. let z : _≡_ {A = ℕ} 0 (suc k) = is in absurd (omega arith) });
-      linked = λ k below. absurd (omega arith);
+      buckets = simp length-replicate (omega arith);
+      ended = λ slot some. absurd (omega (arith, none-filled long slot));
+      known = λ slot some. absurd (omega (arith, none-filled long slot));
+      held = λ id e. let z : _≡_ {A = ℕ} 0 1 = cc in absurd (omega arith);
+      empty = λ slot far. none-filled long slot;
     }
 
 pub room :
-    (count most long wide : ℕ) → count ≤ most → most ≤ 4096 → 4096 + most ≤ long → 2 * most ≤ wide → Room count (replicate long 0) (replicate wide 0)
-room count most long wide h few l w =
-    record { few = omega arith; links-room = simp length-replicate (omega arith); places-room = simp length-replicate (omega arith) }
+    (text : List ℕ) (count most long : ℕ) → length text ≤ 1048576 → count ≤ most → most ≤ 4096 → 2 * most ≤ long →
+    Room text count (replicate long 0)
+room text count most long short h few l = record { short = short; few = omega arith; slots = simp length-replicate (omega arith) }

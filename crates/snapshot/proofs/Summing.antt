@@ -19,12 +19,13 @@ use Rattle.resource_text.specs.Resource.{afterAnswer, resourceAt}
 use Rattle.sums.specs.Range.{SumsWithin}
 use Rattle.sums.specs.Sums.{partOf, sumsOf}
 use Rattle.snapshot.specs.Snapshot.{Entry, newIdAt, withEntry, resourcesAt, summed, resourcesAnswer}
-use Rattle.snapshot.specs.Ids.{idsAbove, IdTable, IdKept, Room}
+use Rattle.snapshot.specs.Ids.{Slots, IdTable, IdKept, Room}
 use Rattle.resource.specs.declared.Resource.{Resource}
 use Rattle.snapshot.specs.declared.resources.Resources.{Resources}
 use Rattle.snapshot.specs.declared.resources.Resources.the-variants as resources
 use Rattle.sums.proofs.Parts.{part-within, plus-within, none-within, within-more}
 use Rattle.resource_text.proofs.Readings.{resource-read, followed}
+use Rattle.snapshot.proofs.Buckets.{table-slots}
 
 -- ---- sums add up
 
@@ -68,46 +69,39 @@ summed-more id one (refused found) = refl
 -- ---- the resources under way
 
 -- n of them are read: their sums, their ids in the table, and the rest is due at a position
-pub record Summing
-    (text : List ℕ) (at count : ℕ) (links₀ places₀ links places : List ℕ) (sums : Sums) (next n : ℕ) : Type 0 where
+pub record Summing (text : List ℕ) (at count : ℕ) (starts₀ starts : List ℕ) (sums : Sums) (next n : ℕ) : Type 0 where
   pub due : n ≤ count
-  pub room : Room count links places
-  pub links-long : length links ≡ length links₀
-  pub places-long : length places ≡ length places₀
-  pub table : IdTable text links places n
+  pub room : Room text count starts
+  pub long : length starts ≡ length starts₀
+  pub above : List (List ℕ)
+  pub counted : length above ≡ n
+  pub table : IdTable text starts above
   pub within : SumsWithin n sums
-  pub rest :
-      summed (resourcesAt resourceAt count [] text at) ≡
-      added sums (summed (resourcesAt resourceAt (count - n) (idsAbove text places n) text next))
+  pub rest : summed (resourcesAt resourceAt count [] text at) ≡ added sums (summed (resourcesAt resourceAt (count - n) above text next))
 
-pub summing-start :
-    (text : List ℕ) (at count : ℕ) {links places : List ℕ} → IdTable text links places 0 → Room count links places →
-    Summing text at count links places links places noSums at 0
-unfolding idsAbove
+pub summing-start : (text : List ℕ) (at count : ℕ) {starts : List ℕ} → IdTable text starts [] → Room text count starts → Summing text at count starts starts noSums at 0
 summing-start text at count table room =
     record {
       due = omega arith;
       room = room;
-      links-long = refl;
-      places-long = refl;
+      long = refl;
+      above = [];
+      counted = refl;
       table = table;
       within = none-within;
       rest = rw (sub-zero, added-none);
     }
 
 module _
-    {text : List ℕ} {at count : ℕ} {links₀ places₀ links places : List ℕ} {sums : Sums} {next n : ℕ}
-    (so-far : Summing text at count links₀ places₀ links places sums next n) where
+    {text : List ℕ} {at count : ℕ} {starts₀ starts : List ℕ} {sums : Sums} {next n : ℕ} (so-far : Summing text at count starts₀ starts sums next n) where
   pub summing-over : count ≤ n → got sums next ≡ summed (resourcesAt resourceAt count [] text at)
   unfolding resourcesAt sumsOf
   summing-over h = let z : count - n ≡ 0 = omega arith in rw (so-far .rest, z, plus-none)
 
   module _ (more : n < count) where
     -- there is room for one more id
-    pub summing-room : Room (n + 1) links places
-    summing-room =
-        let room = so-far .room in
-        record { few = omega arith; links-room = omega arith; places-room = omega arith }
+    pub summing-slots : Slots text starts
+    summing-slots = table-slots (so-far .table) (so-far .room .short) (omega (arith, so-far .counted, so-far .room .slots))
 
     -- and for what it adds
     pub summing-within : SumsWithin 4095 sums
@@ -115,23 +109,23 @@ module _
 
     one-due :
         summed (resourcesAt resourceAt count [] text at) ≡
-        added sums (summed (afterAnswer (newIdAt (idsAbove text places n) text next)
+        added sums (summed (afterAnswer (newIdAt (so-far .above) text next)
         (λ id after. afterAnswer (resourceAt text after)
-        (λ one last. afterAnswer (resourcesAt resourceAt (count - (n + 1)) (id ∷ idsAbove text places n) text last)
+        (λ one last. afterAnswer (resourcesAt resourceAt (count - (n + 1)) (id ∷ so-far .above) text last)
         (λ others end. got (withEntry id one others) end)))))
     unfolding resourcesAt
     one-due = let e : count - n ≡ suc (count - (n + 1)) = omega arith in rw (so-far .rest, e)
 
-    module _ {links′ places′ : List ℕ} {found : Line} (kept : IdKept text next n places links′ places′ found) where
+    module _ {starts′ : List ℕ} {found : Line} (kept : IdKept text next starts starts′ found) where
       module _
           {start end after : ℕ} (id-told : found ≡ line.Value start end after) (answer : Resources)
           (read : resourcesAnswer answer ≡ afterAnswer (resourceAt text after) (λ one last. got (plus sums (partOf one)) last)) where
         resource-due :
             summed (resourcesAt resourceAt count [] text at) ≡
             added sums (summed (afterAnswer (resourceAt text after)
-            (λ one last. afterAnswer (resourcesAt resourceAt (count - (n + 1)) (part text start end ∷ idsAbove text places n) text last)
+            (λ one last. afterAnswer (resourcesAt resourceAt (count - (n + 1)) (part text start end ∷ so-far .above) text last)
             (λ others end′. got (withEntry (part text start end) one others) end′))))
-        resource-due = rw (one-due, ← kept .answers, id-told)
+        resource-due = rw (one-due, ← kept .answers (so-far .above) (so-far .table), id-told)
 
         summing-refused : {told : Fault} → answer ≡ resources.Refused told → resourcesAnswer answer ≡ summed (resourcesAt resourceAt count [] text at)
         summing-refused {told} is = go (resourceAt text after) refl (sym read ∙ ap resourcesAnswer is)
@@ -143,70 +137,65 @@ module _
             go (refused found′) e p = rw (resource-due, read, e)
 
         summing-read :
-            {one : Resource} {sums′ : Sums} {last : ℕ} → resourceAt text after ≡ got one last → sums′ ≡ plus sums (partOf one) → length links′ ≡ length links →
-            length places′ ≡ length places → Summing text at count links₀ places₀ links′ places′ sums′ last (n + 1)
-        summing-read {one} {sums′} {last} is s l p =
+            {one : Resource} {sums′ : Sums} {last : ℕ} → resourceAt text after ≡ got one last → sums′ ≡ plus sums (partOf one) → length starts′ ≡ length starts → Summing text at count starts₀ starts′ sums′ last (n + 1)
+        summing-read {one} {sums′} {last} is s l =
             record {
               due = omega arith;
-              room =
-                  record {
-                    few = so-far .room .few;
-                    links-room = omega (arith, l, so-far .room .links-room);
-                    places-room = omega (arith, p, so-far .room .places-room);
-                  };
-              links-long = l ∙ so-far .links-long;
-              places-long = p ∙ so-far .places-long;
-              table = kept .table start end after id-told;
+              room = record { short = so-far .room .short; few = so-far .room .few; slots = omega (arith, l, so-far .room .slots) };
+              long = l ∙ so-far .long;
+              above = part text start end ∷ so-far .above;
+              counted = omega (arith, so-far .counted);
+              table = kept .table (so-far .above) (so-far .table) start end after id-told;
               within = rw s (plus-within n 1 (so-far .within) (part-within one (resource-read text after is)));
               rest =
                   resource-due
-                  ∙ rw (is, s, kept .above start end after id-told)
-                  (ap (added sums) (summed-more (part text start end) one (resourcesAt resourceAt (count - (n + 1)) (part text start end ∷ idsAbove text places n) text last))
-                  ∙ added-twice sums (partOf one) (summed (resourcesAt resourceAt (count - (n + 1)) (part text start end ∷ idsAbove text places n) text last)));
+                  ∙ rw (is, s)
+                  (ap (added sums) (summed-more (part text start end) one (resourcesAt resourceAt (count - (n + 1)) (part text start end ∷ so-far .above) text last))
+                  ∙ added-twice sums (partOf one) (summed (resourcesAt resourceAt (count - (n + 1)) (part text start end ∷ so-far .above) text last)));
             }
 
         summing-more :
-            {sums′ : Sums} {last : ℕ} → answer ≡ resources.Read sums′ last → length links′ ≡ length links → length places′ ≡ length places →
-            Summing text at count links₀ places₀ links′ places′ sums′ last (n + 1)
-        summing-more {sums′} {last} is l p =
+            {sums′ : Sums} {last : ℕ} → answer ≡ resources.Read sums′ last → length starts′ ≡ length starts →
+            Summing text at count starts₀ starts′ sums′ last (n + 1)
+        summing-more {sums′} {last} is l =
             let f = followed (resourceAt text after) (λ one next. got (plus sums (partOf one)) next) (sym read ∙ ap resourcesAnswer is) in
             let one : resourceAt text after ≡ got (f .one) last = cc (f .given, f .then) in
             let s : sums′ ≡ plus sums (partOf (f .one)) = cc (f .then) in
-            summing-read one s l p
+            summing-read one s l
 
     module _
-        {links′ places′ : List ℕ} {answer : Resources} (found : Line)
+        {starts′ : List ℕ} {answer : Resources} (found : Line)
         (read :
         resourcesAnswer answer ≡
         afterAnswer (idAnswer text found) (λ of after. afterAnswer (resourceAt text after) (λ one last. got (plus sums (partOf one)) last))) where
       -- a line is refused, or the id stands above
       pub summing-stop :
-          IdKept text next n places links′ places′ found → {told : Fault} → answer ≡ resources.Refused told →
+          IdKept text next starts starts′ found → {told : Fault} → answer ≡ resources.Refused told →
           resourcesAnswer answer ≡ summed (resourcesAt resourceAt count [] text at)
       summing-stop kept is = stop found kept read
         where
           stop :
-              (found : Line) → IdKept text next n places links′ places′ found →
+              (found : Line) → IdKept text next starts starts′ found →
               resourcesAnswer answer ≡
               afterAnswer (idAnswer text found) (λ of after. afterAnswer (resourceAt text after) (λ one last. got (plus sums (partOf one)) last)) →
               resourcesAnswer answer ≡ summed (resourcesAt resourceAt count [] text at)
-          stop (line.Refused fault) kept read = rw (read, one-due, ← kept .answers)
+          stop (line.Refused fault) kept read = rw (read, one-due, ← kept .answers (so-far .above) (so-far .table))
           stop (line.Value start end after) kept read = summing-refused kept refl answer read is
 
       -- one more resource is read
       pub summing-next :
-          IdKept text next n places links′ places′ found → {sums′ : Sums} {last : ℕ} → answer ≡ resources.Read sums′ last →
-          length links′ ≡ length links → length places′ ≡ length places →
-          Summing text at count links₀ places₀ links′ places′ sums′ last (n + 1)
-      summing-next kept {sums′} {last} is l p = go found kept read
+          IdKept text next starts starts′ found → {sums′ : Sums} {last : ℕ} → answer ≡ resources.Read sums′ last →
+          length starts′ ≡ length starts →
+          Summing text at count starts₀ starts′ sums′ last (n + 1)
+      summing-next kept {sums′} {last} is l = go found kept read
         where
           go :
-              (found : Line) → IdKept text next n places links′ places′ found →
+              (found : Line) → IdKept text next starts starts′ found →
               resourcesAnswer answer ≡
               afterAnswer (idAnswer text found) (λ of after. afterAnswer (resourceAt text after) (λ one last. got (plus sums (partOf one)) last)) →
-              Summing text at count links₀ places₀ links′ places′ sums′ last (n + 1)
+              Summing text at count starts₀ starts′ sums′ last (n + 1)
           go (line.Refused fault) kept read =
               let p : got sums′ last ≡ refused fault = sym (ap resourcesAnswer is) ∙ read in
               let z : _≡_ {A = ℕ} 0 1 = cc in
               absurd (omega arith)
-          go (line.Value start end after) kept read = summing-more kept refl answer read is l p
+          go (line.Value start end after) kept read = summing-more kept refl answer read is l

@@ -1,52 +1,79 @@
--- How an id is found among those above it (refusal 8) with no work for each pair of ids: every id is linked to the latest earlier one of its bucket.
-use Prim.Native.Nat.{ℕ, zero, suc, _+_, _*_, _%_, _≤_, _<_}
+-- How an id is found among those above it (refusal 8) with no work for each pair of ids: a table keeps where each id starts, in the first empty slot from
+-- the id's bucket on. The first half of the slots are buckets; an empty slot holds 0.
+use Prim.Native.Nat.{ℕ, _+_, _-_, _*_, _/_, _%_, _≤_, _<_}
 use mathlib.Core.Path.{_≡_}
+use mathlib.Core.Bool.{true, false}
 use mathlib.Core.List.{List, [], _∷_}
-use lib.ListN.{length, getD}
+use lib.ListN.{length, take, drop, getD}
+use Rattle.line.specs.Line.{lineLength}
 use Rattle.piece.specs.Piece.{part}
 use Rattle.answers.specs.declared.Line.{Line}
 use Rattle.answers.specs.declared.Line.the-variants as line
 use Rattle.id.specs.Id.{idAnswer}
-use Rattle.snapshot.specs.Snapshot.{newIdAt}
+use Rattle.snapshot.specs.Snapshot.{sameBytes, standsIn, newIdAt}
 
--- one of 4096 buckets, from the bytes of an id
-unfoldable pub bucketFrom : ℕ → List ℕ → ℕ
-bucketFrom front [] = front
-bucketFrom front (byte ∷ rest) = bucketFrom ((front * 31 + byte) % 4096) rest
+-- a number below 2^32 from the bytes of an id
+unfoldable pub hashFrom : ℕ → List ℕ → ℕ
+hashFrom front [] = front
+hashFrom front (byte ∷ rest) = hashFrom ((front + byte) * 40503 % 4294967296) rest
 
-abbrev pub bucketOf : List ℕ → ℕ
-bucketOf id = bucketFrom 0 id
+abbrev pub hashOf : List ℕ → ℕ
+hashOf id = hashFrom 0 id
 
--- the id with an index: each is a part of the text, from a start to an end
-abbrev pub idOf : List ℕ → List ℕ → ℕ → List ℕ
-idOf text places k = part text (getD places (2 * k) 0) (getD places (2 * k + 1) 0)
+abbrev pub bucketOf : List ℕ → List ℕ → ℕ
+bucketOf starts id = hashOf id % (length starts / 2)
 
--- the first n ids, the latest first
-unfoldable pub idsAbove : List ℕ → List ℕ → ℕ → List (List ℕ)
-idsAbove text places zero = []
-idsAbove text places (suc n) = idOf text places n ∷ idsAbove text places n
+-- the id that starts at a position: what is left of the line
+abbrev pub idFrom : List ℕ → ℕ → List ℕ
+idFrom text start = take (lineLength (drop start text)) (drop start text)
 
--- a link to the latest of the first n ids that is in a bucket: its index and 1 more, or 0 where there is none
-pub record Latest (text places : List ℕ) (bucket n link : ℕ) : Type 0 where
-  pub within : link ≤ n
-  pub others : (k : ℕ) → link ≤ k → k < n → bucketOf (idOf text places k) ≡ bucket → ⊥
-  pub same : (k : ℕ) → link ≡ suc k → bucketOf (idOf text places k) ≡ bucket
+-- the id that a slot leads to
+abbrev pub idIn : List ℕ → List ℕ → ℕ → List ℕ
+idIn text starts slot = idFrom text (getD starts slot 0)
 
--- the table of the first n ids: where each starts and ends; the link of each bucket, and from 4096 on the link of each id, to those before it in its own bucket
-pub record IdTable (text links places : List ℕ) (n : ℕ) : Type 0 where
-  pub links-room : 4096 + n ≤ length links
-  pub places-room : 2 * n ≤ length places
-  pub latest : (b : ℕ) → b < 4096 → Latest text places b n (getD links b 0)
-  pub linked : (k : ℕ) → k < n → Latest text places (bucketOf (idOf text places k)) k (getD links (4096 + k) 0)
+-- a table to look an id up in: each line that it leads to is ended, and the last slot is empty
+pub record Slots (text starts : List ℕ) : Type 0 where
+  pub short : length text ≤ 1048576
+  pub buckets : 0 < length starts / 2
+  pub ended : (slot : ℕ) → 0 < getD starts slot 0 → getD starts slot 0 + lineLength (drop (getD starts slot 0) text) < length text
+  pub last : getD starts (length starts - 1) 0 ≡ 0
 
--- places for as many ids as there are resources, at most 4096
-pub record Room (count : ℕ) (links places : List ℕ) : Type 0 where
+-- the slots from an id's bucket up to one are filled with other ids
+pub record Others (text starts id : List ℕ) (slot : ℕ) : Type 0 where
+  pub within : slot < length starts
+  pub behind : bucketOf starts id ≤ slot
+  pub filled : (k : ℕ) → bucketOf starts id ≤ k → k < slot → 0 < getD starts k 0
+  pub others : (k : ℕ) → bucketOf starts id ≤ k → k < slot → sameBytes id (idIn text starts k) ≡ false
+
+-- the slot of an id: the first from its bucket on that is empty or leads to the same id
+pub record SlotOf (text starts id : List ℕ) (slot : ℕ) : Type 0 where
+  pub before : Others text starts id slot
+  pub same : 0 < getD starts slot 0 → sameBytes id (idIn text starts slot) ≡ true
+
+-- an id stands in the table
+pub record Held (text starts id : List ℕ) : Type 0 where
+  pub slot : ℕ
+  pub filled : (k : ℕ) → bucketOf starts id ≤ k → k ≤ slot → 0 < getD starts k 0
+  pub behind : bucketOf starts id ≤ slot
+  pub same : idIn text starts slot ≡ id
+
+-- the table of the ids above
+pub record IdTable (text starts : List ℕ) (above : List (List ℕ)) : Type 0 where
+  pub buckets : 0 < length starts / 2
+  pub ended : (slot : ℕ) → 0 < getD starts slot 0 → getD starts slot 0 + lineLength (drop (getD starts slot 0) text) < length text
+  pub known : (slot : ℕ) → 0 < getD starts slot 0 → standsIn (idIn text starts slot) above ≡ true
+  pub held : (id : List ℕ) → standsIn id above ≡ true → Held text starts id
+  pub empty : (slot : ℕ) → length starts / 2 + length above ≤ slot → getD starts slot 0 ≡ 0
+
+-- slots for as many ids as there are resources, at most 4096
+pub record Room (text : List ℕ) (count : ℕ) (starts : List ℕ) : Type 0 where
+  pub short : length text ≤ 1048576
   pub few : count ≤ 4096
-  pub links-room : 4096 + count ≤ length links
-  pub places-room : 2 * count ≤ length places
+  pub slots : 2 * count ≤ length starts
 
 -- what taking in the id due at a position gives: the id, and the table with it; or the refusal
-pub record IdKept (text : List ℕ) (at n : ℕ) (places links′ places′ : List ℕ) (found : Line) : Type 0 where
-  pub answers : idAnswer text found ≡ newIdAt (idsAbove text places n) text at
-  pub table : (start end next : ℕ) → found ≡ line.Value start end next → IdTable text links′ places′ (n + 1)
-  pub above : (start end next : ℕ) → found ≡ line.Value start end next → idsAbove text places′ (n + 1) ≡ part text start end ∷ idsAbove text places n
+pub record IdKept (text : List ℕ) (at : ℕ) (starts starts′ : List ℕ) (found : Line) : Type 0 where
+  pub answers : (above : List (List ℕ)) → IdTable text starts above → idAnswer text found ≡ newIdAt above text at
+  pub table :
+      (above : List (List ℕ)) → IdTable text starts above → (start end next : ℕ) → found ≡ line.Value start end next →
+      IdTable text starts′ (part text start end ∷ above)

@@ -7,6 +7,7 @@ ghost use mathlib.Core.Path.{_≡_};
 ghost use mathlib.Core.List.{[]};
 ghost use Prim.Native.Nat.{_≤_};
 ghost use lib.IntN.{natAbs};
+ghost use lib.ListN.{length};
 ghost use Rattle.resource_text.specs.Resource.{resourceAt};
 ghost use Rattle.snapshot.specs.Snapshot.{resourcesAt, summed, resourcesAnswer, afterResources, snapshotIn, snapshotSums};
 use crate::header::header_at;
@@ -29,30 +30,28 @@ pub enum Snapshot {
 
 // The resources where they are few: the table of their ids is small.
 fn few_resources(text: &[u8], at: usize, count: usize) -> Resources
-    requires { ⌜ count ≤ 64 ⌝ }
+    requires { ⌜ length (now text) ≤ 1048576 ⌝ ∗ ⌜ count ≤ 64 ⌝ }
     ensures { λ r. ⌜ resourcesAnswer r ≡ summed (resourcesAt resourceAt count [] (now (text .entry)) at) ⌝ }
 {
-    let mut links = [0u16; 4160];
-    let mut places = [0usize; 128];
-    resources_at(text, at, count, &mut links, &mut places)
+    let mut starts = [0usize; 192];
+    resources_at(text, at, count, &mut starts)
 }
 
 // The resources, whether few or many.
 fn resources_in(text: &[u8], at: usize, count: usize) -> Resources
-    requires { ⌜ count ≤ 4096 ⌝ }
+    requires { ⌜ length (now text) ≤ 1048576 ⌝ ∗ ⌜ count ≤ 4096 ⌝ }
     ensures { λ r. ⌜ resourcesAnswer r ≡ summed (resourcesAt resourceAt count [] (now (text .entry)) at) ⌝ }
 {
     if count <= 64 {
         return few_resources(text, at, count);
     }
-    let mut links = [0u16; 8192];
-    let mut places = [0usize; 8192];
-    resources_at(text, at, count, &mut links, &mut places)
+    let mut starts = [0usize; 12288];
+    resources_at(text, at, count, &mut starts)
 }
 
 // What follows a header that ends at a position.
 fn after_header(text: &[u8], header: Header, at: usize) -> Snapshot
-    requires { ⌜ natAbs (header .count) ≤ 4096 ⌝ }
+    requires { ⌜ length (now text) ≤ 1048576 ⌝ ∗ ⌜ natAbs (header .count) ≤ 4096 ⌝ }
     ensures { λ r.
         ⌜ r ≡ snapshotSums (afterResources (now (text .entry)) header (resourcesAt resourceAt (natAbs (header .count)) [] (now (text .entry)) at)) ⌝ }
 {

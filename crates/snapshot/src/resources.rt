@@ -65,14 +65,8 @@ fn with_resource(text: &[u8], id: Line, sums: Sums) -> Resources
 }
 
 // The resources from a position on, their ids kept in a table that is empty.
-pub(crate) fn resources_at(
-    text: &[u8],
-    at: usize,
-    count: usize,
-    links: &mut [u16],
-    places: &mut [usize],
-) -> Resources
-    requires { ⌜ IdTable (now text) (now links) (now places) 0 ⌝ ∗ ⌜ Room count (now links) (now places) ⌝ }
+pub(crate) fn resources_at(text: &[u8], at: usize, count: usize, starts: &mut [usize]) -> Resources
+    requires { ⌜ IdTable (now text) (now starts) [] ⌝ ∗ ⌜ Room (now text) count (now starts) ⌝ }
     ensures { λ r. ⌜ resourcesAnswer r ≡ summed (resourcesAt resourceAt count [] (now (text .entry)) at) ⌝ }
 {
     let mut sums = Sums {
@@ -85,7 +79,7 @@ pub(crate) fn resources_at(
     let mut next = at;
     let mut n: usize = 0;
     while n < count {
-        let id = new_id(text, next, links, places, n);
+        let id = new_id(text, next, starts);
         let r = with_resource(text, id, sums);
         let Resources::Read {
             sums: more,

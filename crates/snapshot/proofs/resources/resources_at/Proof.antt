@@ -3,24 +3,24 @@ use native.Mathlib.Omega.{arith}
 use mathlib.Core.Path.{_∙_}
 use mir.Syntax.{w64}
 use mir.Val.{Fits}
-use Rattle.snapshot.proofs.Summing.{Summing, summing-start, summing-room, summing-within, summing-stop, summing-next, summing-over}
+use Rattle.snapshot.proofs.Summing.{Summing, summing-start, summing-slots, summing-within, summing-stop, summing-next, summing-over}
 use Rattle.snapshot.proofs.resources.resources_at.Statement.{statement}
 use Rattle.snapshot.proofs.resources.resources_at.Tie as tie
 
 abbrev Inv-loop : tie.InvT-loop
-Inv-loop text at count links₀ places₀ sums₀ next₀ n₀ links places sums next n = Summing text at count links₀ places₀ links places sums next n
+Inv-loop text at count starts₀ sums₀ next₀ n₀ starts sums next n = Summing text at count starts₀ starts sums next n
 
 abbrev μ-loop : tie.MeasureT-loop
-μ-loop text at count links₀ places₀ sums₀ next₀ n₀ links places sums next n = count - n
+μ-loop text at count starts₀ sums₀ next₀ n₀ starts sums next n = count - n
 
 loop-holds : tie.Need-loop-holds Inv-loop μ-loop
-loop-holds c = let start = c .before .before .before in summing-start (start .args .text .now) (start .args .at) (start .args .count) (start .pre .0) (start .pre .1)
+loop-holds c = let start = c .before .before in summing-start (start .args .text .now) (start .args .at) (start .args .count) (start .pre .0) (start .pre .1)
 
 new-id-requires : tie.Need-new-id-requires Inv-loop μ-loop
-new-id-requires c κs = let turn = c .before .before in (turn .before .loop .inv .table, summing-room (turn .before .loop .inv) (turn .loop-test .taken))
+new-id-requires c κs = let turn = c .before in summing-slots (turn .before .loop .inv) (turn .loop-test .taken)
 
 with-resource-requires : tie.Need-with-resource-requires Inv-loop μ-loop
-with-resource-requires c κs = let turn = c .before .before .before .before .before .before .before in summing-within (turn .before .loop .inv) (turn .loop-test .taken)
+with-resource-requires c κs = let turn = c .before .before .before .before in summing-within (turn .before .loop .inv) (turn .loop-test .taken)
 
 enum-known-r : tie.Need-enum-known-r Inv-loop μ-loop
 enum-known-r c = c .match .keys1
@@ -30,25 +30,22 @@ enum-told c = c .match .keys2
 
 -- the turn of the loop, seen from where the resource is read
 abbrev turn : tie.After-with-resource Inv-loop μ-loop → tie.In-loop Inv-loop μ-loop
-turn c = c .before .before .before .before .before .before .before .before
+turn c = c .before .before .before .before .before
 
 same-length : tie.Need-same-length Inv-loop μ-loop
-same-length c = let r = c .before .before in r .before .before .before .before .links .given ∙ turn r .before .loop .inv .links-long
-
-same-length-2 : tie.Need-same-length-2 Inv-loop μ-loop
-same-length-2 c = let r = c .before .before in r .before .before .places .given ∙ turn r .before .loop .inv .places-long
+same-length c = let r = c .before .before in r .before .before .starts .given ∙ turn r .before .loop .inv .long
 
 returns : tie.Need-returns Inv-loop μ-loop
 returns c =
     let r = c .before .before in
-    let id = r .before .before .before .before .before .new-id in
+    let id = r .before .before .before .new-id in
     summing-stop (turn r .before .loop .inv) (turn r .loop-test .taken) (id .result) (r .with-resource .ensures) (id .ensures) (c .enum-told .given .1)
 
-fits : {n : ℕ} → n ≤ 4096 → Fits w64 n
-fits h = omega arith
+fits : {n count : ℕ} → n < count → count ≤ 4096 → Fits w64 (n + 1)
+fits h few = omega arith
 
 add-n : tie.Need-add-n Inv-loop μ-loop
-add-n c = let at = turn (c .before .before .before) in fits (summing-room (at .before .loop .inv) (at .loop-test .taken) .few)
+add-n c = let at = turn (c .before .before .before) in fits (at .loop-test .taken) (at .before .loop .inv .room .few)
 
 fewer : {n count : ℕ} → n < count → count - (n + 1) < count - n
 fewer h = omega arith
@@ -59,15 +56,12 @@ loop-less c = fewer (turn (c .before .before .before) .loop-test .taken)
 loop-again : tie.Need-loop-again Inv-loop μ-loop
 loop-again c =
     let r = c .before .before .before in
-    let id = r .before .before .before .before .before .new-id in
+    let id = r .before .before .before .new-id in
     summing-next (turn r .before .loop .inv) (turn r .loop-test .taken) (id .result) (r .with-resource .ensures) (id .ensures) (c .before .r .given .1)
-    (r .before .before .before .before .links .given) (r .before .before .places .given)
+    (r .before .before .starts .given)
 
-same-length-3 : tie.Need-same-length-3 Inv-loop μ-loop
-same-length-3 c = c .before .loop .inv .links-long
-
-same-length-4 : tie.Need-same-length-4 Inv-loop μ-loop
-same-length-4 c = c .before .loop .inv .places-long
+same-length-2 : tie.Need-same-length-2 Inv-loop μ-loop
+same-length-2 c = c .before .loop .inv .long
 
 returns-2 : tie.Need-returns-2 Inv-loop μ-loop
 returns-2 c = summing-over (c .before .loop .inv) (c .loop-test .left)
@@ -84,11 +78,9 @@ resources-at-spec =
     enum-known-r
     enum-told
     same-length
-    same-length-2
     returns
     add-n
     loop-less
     loop-again
-    same-length-3
-    same-length-4
+    same-length-2
     returns-2)
