@@ -28,22 +28,14 @@ pub enum Snapshot {
     Refused(Refusal),
 }
 
-// The resources where they are few: the table of their ids is small.
-fn few_resources(text: &[u8], at: usize, count: usize) -> Resources
-    requires { ⌜ length (now text) ≤ 1048576 ⌝ ∗ ⌜ count ≤ 64 ⌝ }
-    ensures { λ r. ⌜ resourcesAnswer r ≡ summed (resourcesAt resourceAt count [] (now (text .entry)) at) ⌝ }
-{
-    let mut starts = [0usize; 192];
-    resources_at(text, at, count, &mut starts)
-}
-
-// The resources, whether few or many.
+// The resources; where they are few, the table of their ids is small.
 fn resources_in(text: &[u8], at: usize, count: usize) -> Resources
     requires { ⌜ length (now text) ≤ 1048576 ⌝ ∗ ⌜ count ≤ 4096 ⌝ }
     ensures { λ r. ⌜ resourcesAnswer r ≡ summed (resourcesAt resourceAt count [] (now (text .entry)) at) ⌝ }
 {
     if count <= 64 {
-        return few_resources(text, at, count);
+        let mut starts = [0usize; 192];
+        return resources_at(text, at, count, &mut starts);
     }
     let mut starts = [0usize; 12288];
     resources_at(text, at, count, &mut starts)
