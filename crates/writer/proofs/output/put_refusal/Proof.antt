@@ -4,7 +4,7 @@ use borrow.Author.Needs.{needs}
 use Prim.Native.Nat.{_+_, _≤_}
 use mathlib.Core.Bool.{false}
 use mathlib.Core.List.{List, [], _∷_, _++_}
-use mathlib.Core.Path.{refl, ap, _∙_}
+use mathlib.Core.Path.{ap, _∙_}
 use denote.Ref.{now}
 use lib.ListN.{length, length-append}
 use Rattle.text.specs.Bytes.{bytes}
@@ -16,12 +16,12 @@ use Rattle.writer.proofs.output.put_refusal.Statement.{statement}
 use Rattle.writer.proofs.output.put_refusal.Tie as tie
 
 -- the room that the three lines have
-fits : (c : tie.Start) → length (signedLine (bytes "refused=") false (c .args .found .number)) + (length (signedLine (bytes "line=") false (c .args .found .line)) + length (bytes "text=" ++ (now (c .args .name) ++ (10 ∷ [])))) ≤ length (now (c .args .buffer))
+fits : (c : tie.Start) → length (signedLine (bytes "refused=") false (c .args .number)) + (length (signedLine (bytes "line=") false (c .args .line)) + length (bytes "text=" ++ (now (c .args .name) ++ (10 ∷ [])))) ≤ length (now (c .args .buffer))
 fits c =
-    let one = signedLine (bytes "refused=") false (c .args .found .number) in
-    let two = signedLine (bytes "line=") false (c .args .found .line) in
+    let one = signedLine (bytes "refused=") false (c .args .number) in
+    let two = signedLine (bytes "line=") false (c .args .line) in
     let three = bytes "text=" ++ (now (c .args .name) ++ (10 ∷ [])) in
-    omega (arith, c .pre, ap length (refusal-signed (c .args .found) (now (c .args .name))), length-append one (two ++ three), length-append two three)
+    omega (arith, c .pre, ap length (refusal-signed (record { number = c .args .number; line = c .args .line }) (now (c .args .name))), length-append one (two ++ three), length-append two three)
 
 slice-aggregate-put-line : tie.Need-slice-aggregate-put-line
 slice-aggregate-put-line c = search needs
@@ -60,10 +60,10 @@ returns c =
     let two = three .before .before .before .before in
     let one = two .before .before .before .before .before in
     let start = one .before .before .before .before .before in
-    rw (refusal-signed (start .args .found) (now (start .args .name)))
+    rw (refusal-signed (record { number = start .args .number; line = start .args .line }) (now (start .args .name)))
     (laid-both (one .put-line .ensures)
-    (laid-both (two .put-line2 .ensures) (record { ends = refl; bytes = three .put-name .ensures }) (omega (arith, fits start, one .put-line .ensures .ends, one .put-line .kept .0)))
-    (omega (arith, fits start)) .bytes)
+    (laid-both (two .put-line2 .ensures) (three .put-name .ensures) (omega (arith, fits start, one .put-line .ensures .ends, one .put-line .kept .0)))
+    (omega (arith, fits start)))
 
 pub put-refusal-spec : {M : Type 1} → statement M
 put-refusal-spec =

@@ -2,6 +2,8 @@
 use Rattle.writer.specs.Output.{refusalLines}
 use Rattle.writer.proofs.Refused.{twenty-digits, refusal-length}
 use Rattle.writer.proofs.Writing.{text-short, text-stands}
+use Prim.Native.Nat.{_≤_}
+use lib.ListN.{length}
 use native.Mathlib.Omega.{arith}
 use borrow.Author.Needs.{needs}
 use Rattle.writer.proofs.output.write_refusal.Statement.{statement}
@@ -34,22 +36,20 @@ returns c =
     text-short (refusalLines (s .args .found) (s .args .name .now)) (s .args .buffer .now) 0
     (omega (arith, refusal-length (s .args .found) (s .args .name .now), c .before .digit-count2 .ensures, c .before .before .digit-count .ensures))
 
+-- the room that the lines have
+fits : (c : tie.Else1) → length (refusalLines (c .before .before .before .before .before .args .found) (c .before .before .before .before .before .args .name .now)) ≤ length (c .before .before .before .before .before .args .buffer .now)
+fits c =
+    let s = c .before .before .before .before .before in
+    omega (arith, refusal-length (s .args .found) (s .args .name .now), c .before .digit-count2 .ensures, c .before .before .digit-count .ensures, c .if1 .left)
+
 put-refusal-requires : tie.Need-put-refusal-requires
-put-refusal-requires c κs =
-    let s = c .before .before .before .before .before .before in
-    omega (arith, refusal-length (s .args .found) (s .args .name .now), c .before .before .digit-count2 .ensures, c .before .before .before .digit-count .ensures)
+put-refusal-requires c κs = fits (c .before)
 
 same-length : tie.Need-same-length
 same-length c = c .before .before .put-refusal .kept .0
 
 returns-2 : tie.Need-returns-2
-returns-2 c =
-    let s = c .before .before .before .before .before .before .before .before .before in
-    let d2 = c .before .before .before .before .before in
-    let long = refusal-length (s .args .found) (s .args .name .now) in
-    text-stands
-    (record { ends = omega (arith, long, d2 .digit-count2 .ensures, d2 .before .digit-count .ensures); bytes = c .before .before .put-refusal .ensures })
-    (omega (arith, long, d2 .digit-count2 .ensures, d2 .before .digit-count .ensures, c .before .before .before .before .if1 .left))
+returns-2 c = text-stands (c .before .before .put-refusal .ensures) (omega (arith, fits (c .before .before .before .before)))
 
 pub write-refusal-spec : {M : Type 1} → statement M
 write-refusal-spec =
