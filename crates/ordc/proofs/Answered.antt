@@ -1,21 +1,15 @@
 -- What a call's answer says of what is lent: laid where nothing was refused, left otherwise.
-use mathlib.Core.Bool.{Bool, true, false, not}
-use mathlib.Core.Path.{_≡_, refl}
-use lib.Dec.{eqb}
-use Rattle.ordc.specs.Refusal.{Answered}
+use mathlib.Core.Path.{_≡_, refl, subst}
+use Rattle.curve_set.specs.declared.answer.Answer.{Answer}
+use Rattle.curve_set.specs.declared.answer.Answer.the-variants as answer
+use Rattle.text.specs.declared.refusal.Refusal as text
+use Rattle.ordc.specs.Refusal.{refusalIn, Answered}
 use Rattle.ordc.specs.declared.refusal.Refusal.{Refusal}
+use Rattle.ordc.proofs.Numbered.{Numbered}
 
-turned : (x b : Bool) → b ≡ not x → b ≡ true → x ≡ false
-turned true b e is = cc
-turned false b e is = refl
+module _ {A : Type 0} {ended : Answer} {before given : A} where
+  pub lent-laid : ended ≡ answer.Accepted → {after : A} → after ≡ given → Answered (refusalIn ended) before given after (record { number = 0; line = 0 })
+  lent-laid e laid = rw e (record { refuses = refl; lent = laid })
 
-pub accepted : (x b : Bool) → b ≡ not x → b ≡ false → x ≡ true
-accepted true b e is = refl
-accepted false b e is = cc
-
-module _ {A : Type 0} {refusal : Refusal} {before given : A} {r : Refusal} (e : r ≡ refusal) {b : Bool} (says : b ≡ not (eqb (r .number) 0)) where
-  pub lent-laid : {after : A} → b ≡ false → after ≡ given → Answered refusal before given after r
-  lent-laid left laid = record { refuses = e; lent = rw (← e, accepted (eqb (r .number) 0) b says left) laid }
-
-  pub lent-left : b ≡ true → Answered refusal before given before r
-  lent-left taken = record { refuses = e; lent = rw (← e, turned (eqb (r .number) 0) b says taken) }
+  pub lent-left : {found : text.Refusal} → ended ≡ answer.Refused found → Numbered ended → {r : Refusal} → r ≡ refusalIn (answer.Refused found) → Answered (refusalIn ended) before given before r
+  lent-left {found} e n is = rw e (record { refuses = is; lent = rw (subst Numbered e n) })

@@ -6,7 +6,6 @@ use mathlib.Core.Bool.{Bool, true, false}
 use mathlib.Core.List.{List, [], _∷_, _++_, append-assoc}
 use mathlib.Core.Path.{_≡_, refl}
 use borrow.Author.Tests.{le-ltb}
-use lib.Dec.{eqb}
 use lib.IntN.{ℤ, pos}
 use lib.ListN.{length, take, drop, getD, set}
 use lib.Seq.{drop-cons, drop-drop, getD-drop, lt-length-set, take-suc-set}
@@ -15,9 +14,9 @@ use Rattle.record.specs.Record.{noHours}
 use Rattle.possible.specs.Possible.{allPossible}
 use Rattle.history.specs.Booking.{booked}
 use Rattle.history.proofs.Closure.{booked-possible}
+use Rattle.curve_set.specs.declared.answer.Answer.the-variants as answer
 use Rattle.record.specs.declared.Group.{Group}
 use Rattle.record.specs.declared.Record.{Record}
-use Rattle.ordc.specs.Refusal.{refusalIn}
 use Rattle.ordc.specs.Record.{countOf, groupsOf, groupValues}
 use Rattle.ordc.specs.Promises.{RecordIsReadBack}
 
@@ -80,13 +79,12 @@ groups-of-values (suc n) (g ∷ groups) l = rw (le-ltb (g .count) 0 (omega arith
 pub record-is-read-back : RecordIsReadBack
 record-is-read-back history l = rw (groups-of-values 24 (history .groups) l)
 
--- a booking with number 0 has a record that is not impossible
+-- an accepted booking has a record that is not impossible
 pub accepted-possible :
-    (history : Record) (text : List ℕ) → eqb (refusalIn (booked history text .answer) .number) 0 ≡ true → allPossible (booked history text .history .groups) ≡ true
+    (history : Record) (text : List ℕ) → booked history text .answer ≡ answer.Accepted → allPossible (booked history text .history .groups) ≡ true
 unfolding booked
 accepted-possible history text = go (allPossible (history .groups)) refl
   where
-    go : (b : Bool) → allPossible (history .groups) ≡ b → eqb (refusalIn (booked history text .answer) .number) 0 ≡ true →
-        allPossible (booked history text .history .groups) ≡ true
+    go : (b : Bool) → allPossible (history .groups) ≡ b → booked history text .answer ≡ answer.Accepted → allPossible (booked history text .history .groups) ≡ true
     go true e = λ _. booked-possible history text e
-    go false e = rw e (λ (n : false ≡ true). let z : _≡_ {A = ℕ} 0 1 = cc in absurd (omega arith))
+    go false e = rw e (λ (n : answer.Refused (record { number = 1; line = 0 }) ≡ answer.Accepted). let z : _≡_ {A = ℕ} 0 1 = cc in absurd (omega arith))

@@ -7,9 +7,10 @@ ghost use lib.ListN.{set};
 ghost use Rattle.block.specs.Block.{value};
 ghost use Rattle.possible.specs.Possible.{allPossible};
 ghost use Rattle.ordc.specs.Record.{countOf, recordOf, recordValues, HourBooked};
+use crate::refusal::ACCEPTED;
 use crate::refusal::Refusal;
-use crate::refusal::is_refusal;
-use crate::refusal::refusal_in;
+use crate::refusal::refused;
+use curve_set::answer::Answer;
 use history::book;
 use integer::magnitude;
 use record::Group;
@@ -99,11 +100,12 @@ pub extern "C" fn ordc_book(history: &mut [i64; 72], text: &[u8]) -> Refusal
 {
     let booking = book(record_of(history), text);
     let answer = booking.answer;
-    let found = refusal_in(answer);
-    if is_refusal(found) {
-        return found;
+    match answer {
+        Answer::Refused(found) => refused(found),
+        Answer::Accepted => {
+            let changed = booking.history;
+            *history = record_values(changed);
+            ACCEPTED
+        }
     }
-    let changed = booking.history;
-    *history = record_values(changed);
-    found
 }

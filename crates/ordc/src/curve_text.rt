@@ -1,9 +1,10 @@
 // A curve text read into a lent curve set of 50 numbers.
 ghost use Rattle.ordc.specs.CurveText.{CurvesRead};
+use crate::refusal::ACCEPTED;
 use crate::refusal::Refusal;
-use crate::refusal::is_refusal;
-use crate::refusal::refusal_in;
+use crate::refusal::refused;
 use curve::read_curves;
+use curve_set::answer::Answer;
 use curve_values::values_of;
 
 pub mod write;
@@ -15,11 +16,12 @@ pub extern "C" fn ordc_read_curves(text: &[u8], curves: &mut [i64; 50]) -> Refus
 {
     let read = read_curves(text);
     let answer = read.answer;
-    let found = refusal_in(answer);
-    if is_refusal(found) {
-        return found;
+    match answer {
+        Answer::Refused(found) => refused(found),
+        Answer::Accepted => {
+            let set = read.set;
+            *curves = values_of(set);
+            ACCEPTED
+        }
     }
-    let set = read.set;
-    *curves = values_of(set);
-    found
 }

@@ -1,9 +1,7 @@
 // How every function of the library answers.
 ghost use mathlib.Core.Path.{_≡_};
-ghost use mathlib.Core.Bool.{not};
-ghost use lib.Dec.{eqb};
 ghost use Rattle.ordc.specs.Refusal.{refusalIn};
-use curve_set::answer::Answer;
+ghost use Rattle.curve_set.specs.declared.answer.Answer.the-variants as answer;
 
 // A refusal's number and line; both 0 where nothing was refused.
 #[repr(C)]
@@ -12,23 +10,14 @@ pub struct Refusal {
     pub line: u64,
 }
 
-// The refusal in an answer.
-pub(crate) fn refusal_in(answer: Answer) -> Refusal
-    ensures { λ r. ⌜ r ≡ refusalIn answer ⌝ }
-{
-    match answer {
-        Answer::Accepted => Refusal { number: 0, line: 0 },
-        Answer::Refused(found) => {
-            let number = found.number;
-            let line = found.line as u64;
-            Refusal { number, line }
-        }
-    }
-}
+// The answer where nothing was refused.
+pub(crate) const ACCEPTED: Refusal = Refusal { number: 0, line: 0 };
 
-// Whether anything was refused, so that what is lent stays as it was.
-pub(crate) fn is_refusal(found: Refusal) -> bool
-    ensures { λ r. ⌜ r ≡ not (eqb (found .number) 0) ⌝ }
+// A refusal that was found, as hosts see it.
+pub(crate) fn refused(found: text::refusal::Refusal) -> Refusal
+    ensures { λ r. ⌜ r ≡ refusalIn (answer.Refused found) ⌝ }
 {
-    found.number != 0
+    let number = found.number;
+    let line = found.line as u64;
+    Refusal { number, line }
 }

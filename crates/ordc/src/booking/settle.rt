@@ -1,9 +1,10 @@
 // Settling a record.
 ghost use Rattle.ordc.specs.Record.{RecordSettled};
 use crate::booking::record_of;
+use crate::refusal::ACCEPTED;
 use crate::refusal::Refusal;
-use crate::refusal::is_refusal;
-use crate::refusal::refusal_in;
+use crate::refusal::refused;
+use curve_set::answer::Answer;
 use curve_values::values_of;
 use settling::settle;
 
@@ -19,11 +20,12 @@ pub extern "C" fn ordc_settle(
 {
     let settled = settle(record_of(history), voll, floor);
     let answer = settled.answer;
-    let found = refusal_in(answer);
-    if is_refusal(found) {
-        return found;
+    match answer {
+        Answer::Refused(found) => refused(found),
+        Answer::Accepted => {
+            let set = settled.set;
+            *curves = values_of(set);
+            ACCEPTED
+        }
     }
-    let set = settled.set;
-    *curves = values_of(set);
-    found
 }

@@ -1,17 +1,16 @@
--- The three calls chain to the booking; the record is laid where the number is 0.
+-- The calls chain to the booking, whose answer is taken apart; the record is laid where it is accepted.
 use Prim.Native.Nat.{ℕ}
 use mathlib.Core.List.{List}
 use mathlib.Core.Path.{_≡_, ap, sym, _∙_}
-use lib.Dec.{eqb}
 use denote.Ref.{now}
+use Rattle.curve_set.specs.declared.answer.Answer.{Answer}
 use Rattle.history.specs.Booking.{booked}
 use Rattle.record.specs.declared.Record.{Record}
 use Rattle.history.specs.declared.Booking.{Booking}
-use Rattle.ordc.specs.Refusal.{refusalIn}
 use Rattle.ordc.specs.Record.{recordOf, recordValues}
-use Rattle.ordc.specs.declared.refusal.Refusal.{Refusal}
-use Rattle.ordc.proofs.Answered.{accepted, lent-laid, lent-left}
+use Rattle.ordc.proofs.Answered.{lent-laid, lent-left}
 use Rattle.ordc.proofs.Groups.{accepted-possible}
+use Rattle.ordc.proofs.Numbered.{booked-numbered}
 use Rattle.ordc.proofs.booking.ordc_book.Statement.{statement}
 use Rattle.ordc.proofs.booking.ordc_book.Tie as tie
 
@@ -21,11 +20,14 @@ record-of-requires c κs = tt
 book-requires : tie.Need-book-requires
 book-requires c κs = tt
 
-refusal-in-requires : tie.Need-refusal-in-requires
-refusal-in-requires c κs = tt
+enum-known-answer : tie.Need-enum-known-answer
+enum-known-answer c = c .match .keys1
 
-is-refusal-requires : tie.Need-is-refusal-requires
-is-refusal-requires c κs = tt
+refused-requires : tie.Need-refused-requires
+refused-requires c κs = tt
+
+enum-told : tie.Need-enum-told
+enum-told c = c .match .keys2
 
 abbrev text-of : tie.After-book → List ℕ
 text-of c = now (c .before .before .before .before .args .text)
@@ -36,23 +38,26 @@ history-of c = recordOf (now (c .before .before .before .before .args .history))
 booking : (c : tie.After-book) → c .book .result ≡ booked (history-of c) (text-of c)
 booking c = c .book .ensures ∙ ap (λ (history : Record). booked history (text-of c)) (c .before .record-of .ensures)
 
-found : (c : tie.After-refusal-in) → c .refusal-in .result ≡ refusalIn (booked (history-of (c .before)) (text-of (c .before)) .answer)
-found c = c .refusal-in .ensures ∙ ap (λ (b : Booking). refusalIn (b .answer)) (booking (c .before))
-
-returns : tie.Need-returns
-returns c = lent-left (found (c .before .before)) (c .before .is-refusal .ensures) (c .if1 .taken)
+answered : (c : tie.After-book) {a : Answer} → c .book .result .answer ≡ a → booked (history-of c) (text-of c) .answer ≡ a
+answered c e = sym (ap (λ (b : Booking). b .answer) (booking c)) ∙ e
 
 record-values-requires : tie.Need-record-values-requires
 record-values-requires c κs =
-    let called = c .before .before .before in
-    let booked-on = called .before in
-    let zero = accepted (eqb (called .refusal-in .result .number) 0) (c .before .before .is-refusal .result) (c .before .before .is-refusal .ensures) (c .before .if1 .left) in
-    rw (booking booked-on) (accepted-possible (history-of booked-on) (text-of booked-on) (sym (ap (λ (r : Refusal). eqb (r .number) 0) (found called)) ∙ zero))
+    let told = c .before in
+    let called = told .before .before in
+    rw (booking called) (accepted-possible (history-of called) (text-of called) (answered called (told .enum-told .given .1)))
+
+returns : tie.Need-returns
+returns c =
+    let told = c .before .before in
+    let called = told .before .before in
+    lent-left (answered called (told .answer .given .1)) (booked-numbered (history-of called) (text-of called)) (c .refused .ensures)
 
 returns-2 : tie.Need-returns-2
 returns-2 c =
-    let called = c .before .before .before .before in
-    lent-laid (found called) (c .before .before .before .is-refusal .ensures) (c .before .before .if1 .left) (c .record-values .ensures ∙ ap (λ (b : Booking). recordValues (b .history)) (booking (called .before)))
+    let told = c .before .before in
+    let called = told .before .before in
+    lent-laid (answered called (told .enum-told .given .1)) (c .record-values .ensures ∙ ap (λ (b : Booking). recordValues (b .history)) (booking called))
 
 pub ordc-book-spec : {M : Type 1} → statement M
 ordc-book-spec =
@@ -60,7 +65,9 @@ ordc-book-spec =
     (tie.spec
     record-of-requires
     book-requires
-    refusal-in-requires is-refusal-requires
-    returns
+    enum-known-answer
+    refused-requires
+    enum-told
     record-values-requires
+    returns
     returns-2)

@@ -1,13 +1,14 @@
--- The three calls chain to the settling; the curve set is laid where the number is 0.
-use mathlib.Core.Path.{_≡_, ap, _∙_}
+-- The calls chain to the settling, whose answer is taken apart; the curve set is laid where it is accepted.
+use mathlib.Core.Path.{_≡_, ap, sym, _∙_}
 use denote.Ref.{now}
 use mir.Facts.{toZ-ofZ}
 use Rattle.curve_values.specs.CurveValues.{curveValues}
+use Rattle.curve_set.specs.declared.answer.Answer.{Answer}
 use Rattle.curve_set.specs.declared.Curves.{Curves}
 use Rattle.settling.specs.Settle.{settled}
-use Rattle.ordc.specs.Refusal.{refusalIn}
 use Rattle.ordc.specs.Record.{recordOf}
 use Rattle.ordc.proofs.Answered.{lent-laid, lent-left}
+use Rattle.ordc.proofs.Numbered.{settled-numbered}
 use Rattle.ordc.proofs.booking.settle.ordc_settle.Statement.{statement}
 use Rattle.ordc.proofs.booking.settle.ordc_settle.Tie as tie
 
@@ -17,11 +18,17 @@ record-of-requires c κs = tt
 settle-requires : tie.Need-settle-requires
 settle-requires c κs = tt
 
-refusal-in-requires : tie.Need-refusal-in-requires
-refusal-in-requires c κs = tt
+enum-known-answer : tie.Need-enum-known-answer
+enum-known-answer c = c .match .keys1
 
-is-refusal-requires : tie.Need-is-refusal-requires
-is-refusal-requires c κs = tt
+refused-requires : tie.Need-refused-requires
+refused-requires c κs = tt
+
+enum-told : tie.Need-enum-told
+enum-told c = c .match .keys2
+
+values-of-requires : tie.Need-values-of-requires
+values-of-requires c κs = tt
 
 abbrev given : tie.After-settle → Curves
 given c = let s = c .before .before in settled (recordOf (now (s .args .history))) (s .args .voll) (s .args .floor)
@@ -31,19 +38,30 @@ settling c =
     let s = c .before .before in
     rw (← c .before .record-of .ensures, ← toZ-ofZ (s .fits .voll), ← toZ-ofZ (s .fits .floor)) (c .settle .ensures)
 
-found : (c : tie.After-refusal-in) → c .refusal-in .result ≡ refusalIn (given (c .before) .answer)
-found c = c .refusal-in .ensures ∙ ap (λ (curves : Curves). refusalIn (curves .answer)) (settling (c .before))
+answered : (c : tie.After-settle) {a : Answer} → c .settle .result .answer ≡ a → given c .answer ≡ a
+answered c e = sym (ap (λ (curves : Curves). curves .answer) (settling c)) ∙ e
 
 returns : tie.Need-returns
-returns c = lent-left (found (c .before .before)) (c .before .is-refusal .ensures) (c .if1 .taken)
-
-values-of-requires : tie.Need-values-of-requires
-values-of-requires c κs = tt
+returns c =
+    let told = c .before .before in
+    let s = told .before .before .before .before in
+    lent-left (answered (told .before .before) (told .answer .given .1)) (settled-numbered (recordOf (now (s .args .history))) (s .args .voll) (s .args .floor)) (c .refused .ensures)
 
 returns-2 : tie.Need-returns-2
 returns-2 c =
-    let called = c .before .before .before .before in
-    lent-laid (found called) (c .before .before .before .is-refusal .ensures) (c .before .before .if1 .left) (c .values-of .ensures ∙ ap (λ (curves : Curves). curveValues (curves .set)) (settling (called .before)))
+    let told = c .before .before in
+    let called = told .before .before in
+    lent-laid (answered called (told .enum-told .given .1)) (c .values-of .ensures ∙ ap (λ (curves : Curves). curveValues (curves .set)) (settling called))
 
 pub ordc-settle-spec : {M : Type 1} → statement M
-ordc-settle-spec = tie.close (tie.spec record-of-requires settle-requires refusal-in-requires is-refusal-requires returns values-of-requires returns-2)
+ordc-settle-spec =
+    tie.close
+    (tie.spec
+    record-of-requires
+    settle-requires
+    enum-known-answer
+    refused-requires
+    enum-told
+    values-of-requires
+    returns
+    returns-2)
