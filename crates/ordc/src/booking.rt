@@ -103,8 +103,7 @@ pub extern "C" fn ordc_book(history: &mut [i64; 72], text: &[u8]) -> Refusal
     match answer {
         Answer::Refused(found) => refused(found),
         Answer::Accepted => {
-            let changed = booking.history;
-            *history = record_values(changed);
+            *history = record_values(booking.history);
             ACCEPTED
         }
     }

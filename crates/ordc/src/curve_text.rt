@@ -19,8 +19,7 @@ pub extern "C" fn ordc_read_curves(text: &[u8], curves: &mut [i64; 50]) -> Refus
     match answer {
         Answer::Refused(found) => refused(found),
         Answer::Accepted => {
-            let set = read.set;
-            *curves = values_of(set);
+            *curves = values_of(read.set);
             ACCEPTED
         }
     }

@@ -23,8 +23,7 @@ pub extern "C" fn ordc_settle(
     match answer {
         Answer::Refused(found) => refused(found),
         Answer::Accepted => {
-            let set = settled.set;
-            *curves = values_of(set);
+            *curves = values_of(settled.set);
             ACCEPTED
         }
     }

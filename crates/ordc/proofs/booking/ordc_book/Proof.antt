@@ -43,9 +43,8 @@ answered c e = sym (ap (λ (b : Booking). b .answer) (booking c)) ∙ e
 
 record-values-requires : tie.Need-record-values-requires
 record-values-requires c κs =
-    let told = c .before in
-    let called = told .before .before in
-    rw (booking called) (accepted-possible (history-of called) (text-of called) (answered called (told .enum-told .given .1)))
+    let called = c .before .before in
+    rw (booking called) (accepted-possible (history-of called) (text-of called) (answered called (c .enum-told .given .1)))
 
 returns : tie.Need-returns
 returns c =
@@ -55,7 +54,7 @@ returns c =
 
 returns-2 : tie.Need-returns-2
 returns-2 c =
-    let told = c .before .before in
+    let told = c .before in
     let called = told .before .before in
     lent-laid (answered called (told .enum-told .given .1)) (c .record-values .ensures ∙ ap (λ (b : Booking). recordValues (b .history)) (booking called))
 
