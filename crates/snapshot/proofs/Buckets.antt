@@ -8,7 +8,7 @@ use mathlib.Core.Bool.{Bool, true, false, _||_}
 use mathlib.Core.List.{List, [], _∷_}
 use borrow.Author.Tests.{eq-eqb, eqb-true, eqb-false, ltb-true, ltb-false}
 use lib.Dec.{eqb, ltb}
-use lib.ListN.{length, take, drop, getD, set, replicate, drop-of-length-le, length-set, length-replicate}
+use lib.ListN.{length, drop, getD, set, replicate, drop-of-length-le, length-set, length-replicate}
 use lib.Seq.{drop-cons, drop-drop, length-take-le, getD-set-same, getD-set-other}
 use Rattle.text.specs.Choice.{pick}
 use Rattle.line.specs.Line.{lineLength, begins}

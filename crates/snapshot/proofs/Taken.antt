@@ -1,5 +1,5 @@
 -- Laws on taking in an id: refused lines, an id that stands above, and a new one.
-use Prim.Native.Nat.{ℕ, suc, _+_, _-_, _≤_, _<_}
+use Prim.Native.Nat.{ℕ, _+_, _-_, _≤_, _<_}
 use native.Mathlib.Omega.{arith}
 use mathlib.Core.Path.{_≡_, refl, ap, sym, _∙_}
 use mathlib.Core.Bool.{Bool, true, false}
@@ -15,7 +15,7 @@ use Rattle.text.specs.declared.refusal.Fault.{Fault}
 use Rattle.answers.specs.declared.Line.{Line}
 use Rattle.answers.specs.declared.Line.the-variants as line
 use Rattle.line.specs.Line.{lineLength, begins, lineIn}
-use Rattle.line.specs.Field.{good, bad, Answer, got, refused, judged, valueIn, fieldAt}
+use Rattle.line.specs.Field.{good, bad, got, judged, valueIn, fieldAt}
 use Rattle.line.proofs.Lines.{line-after}
 use Rattle.answers.specs.Answers.{fault}
 use Rattle.id.specs.Id.{isId, idField, idAnswer}

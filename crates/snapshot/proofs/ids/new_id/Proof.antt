@@ -1,6 +1,6 @@
 use Prim.Native.Nat.{_+_, _<_}
 use native.Mathlib.Omega.{arith}
-use mathlib.Core.Path.{_≡_, refl}
+use mathlib.Core.Path.{refl}
 use lib.ListN.{length, length-set}
 use Rattle.text.specs.Bytes.{bytes}
 use Rattle.piece.specs.Piece.{part}
