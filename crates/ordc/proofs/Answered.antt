@@ -5,7 +5,7 @@ use Rattle.curve_set.specs.declared.answer.Answer.the-variants as answer
 use Rattle.text.specs.declared.refusal.Refusal as text
 use Rattle.ordc.specs.Refusal.{refusalIn, Answered}
 use Rattle.ordc.specs.declared.refusal.Refusal.{Refusal}
-use Rattle.ordc.proofs.Numbered.{Numbered}
+use Rattle.ordc.specs.Promises.{Numbered}
 
 module _ {A : Type 0} {ended : Answer} {before given : A} where
   pub lent-laid : ended ≡ answer.Accepted → {after : A} → after ≡ given → Answered (refusalIn ended) before given after (record { number = 0; line = 0 })

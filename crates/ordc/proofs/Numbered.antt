@@ -53,10 +53,7 @@ use Rattle.record.specs.declared.Group.{Group}
 use Rattle.record.specs.declared.Record.{Record}
 use Rattle.ordc.specs.CurveText.{writingAnswer}
 use Rattle.ordc.specs.Price.{pricingAnswer}
-
-abbrev pub Numbered : declared.Answer → Type 0
-Numbered answer.Accepted = Unit
-Numbered (answer.Refused found) = eqb (found .number) 0 ≡ false
+use Rattle.ordc.specs.Promises.{Numbered, RefusalsAreNumbered}
 
 -- ---- a line
 
@@ -182,7 +179,7 @@ hour-numbered text = go (ltb 65536 (length text))
     go true = refl
     go false = own (readFields hourFields text 0 .values) (readFields hourFields text 0 .end) (block-numbered hourFields hour-fields text 0)
 
-pub booked-numbered : (history : Record) (text : List ℕ) → Numbered (booked history text .answer)
+booked-numbered : (history : Record) (text : List ℕ) → Numbered (booked history text .answer)
 unfolding booked bookError
 booked-numbered history text = go (allPossible (history .groups))
   where
@@ -211,7 +208,7 @@ groups-numbered index (g ∷ groups) = go (ltb (g .count) 2) (eqb (spreadOf g) 0
     go false true n = refl
     go false false n = n
 
-pub settled-numbered : (history : Record) (voll floor : ℤ) → Numbered (settled history voll floor .answer)
+settled-numbered : (history : Record) (voll floor : ℤ) → Numbered (settled history voll floor .answer)
 unfolding settled
 settled-numbered history voll floor = go (allPossible (history .groups)) (vollInRange voll) (floorInRange floor)
   where
@@ -230,7 +227,7 @@ settled-numbered history voll floor = go (allPossible (history .groups)) (vollIn
 curve-fields : FieldsNumbered curveFields
 curve-fields = subst FieldsNumbered curve-schema (numbers-numbered (keysOf curveKeys) curveLows curveHighs)
 
-pub curves-numbered : (text : List ℕ) → Numbered (readCurves text .answer)
+curves-numbered : (text : List ℕ) → Numbered (readCurves text .answer)
 unfolding readCurves
 curves-numbered text = go (ltb 4096 (length text))
   where
@@ -249,7 +246,7 @@ curves-numbered text = go (ltb 4096 (length text))
     go true = refl
     go false = lines (readFields curveFields text 0 .end) (block-numbered curveFields curve-fields text 0)
 
-pub writing-numbered : (curves : CurveSet) (buffer : List ℕ) → Numbered (writingAnswer (writingCurves curves buffer))
+writing-numbered : (curves : CurveSet) (buffer : List ℕ) → Numbered (writingAnswer (writingCurves curves buffer))
 unfolding writingCurves
 writing-numbered curves buffer = go (curvesInRange curves) (leb (length (curveText curves)) (length buffer))
   where
@@ -337,7 +334,7 @@ snapshot-numbered text = go (ltb 1048576 (length text))
     go true = refl
     go false = header (readFields headerFields text 0 .values) (readFields headerFields text 0 .end) (block-numbered headerFields (schema-numbered headerSchema) text 0)
 
-pub priced-numbered : (curves : CurveSet) (text : List ℕ) → Numbered (pricingAnswer (priced curves text))
+priced-numbered : (curves : CurveSet) (text : List ℕ) → Numbered (pricingAnswer (priced curves text))
 unfolding priced
 priced-numbered curves text = go (curvesInRange curves)
   where
@@ -348,3 +345,13 @@ priced-numbered curves text = go (curvesInRange curves)
     go : (possible : Bool) → Numbered (pricingAnswer (pick possible (pricedSnapshot curves (snapshotIn text)) (refusedPricing 1 0)))
     go true = by-snapshot (snapshotIn text) (snapshot-numbered text)
     go false = refl
+
+pub refusals-are-numbered : RefusalsAreNumbered
+refusals-are-numbered =
+    record {
+      booking = booked-numbered;
+      settling = settled-numbered;
+      reading = curves-numbered;
+      writing = writing-numbered;
+      pricing = priced-numbered;
+    }

@@ -10,7 +10,7 @@ use Rattle.history.specs.declared.Booking.{Booking}
 use Rattle.ordc.specs.Record.{recordOf, recordValues}
 use Rattle.ordc.proofs.Answered.{lent-laid, lent-left}
 use Rattle.ordc.proofs.Groups.{accepted-possible}
-use Rattle.ordc.proofs.Numbered.{booked-numbered}
+use Rattle.ordc.proofs.Numbered.{refusals-are-numbered}
 use Rattle.ordc.proofs.booking.ordc_book.Statement.{statement}
 use Rattle.ordc.proofs.booking.ordc_book.Tie as tie
 
@@ -50,7 +50,7 @@ returns : tie.Need-returns
 returns c =
     let told = c .before .before in
     let called = told .before .before in
-    lent-left (answered called (told .answer .given .1)) (booked-numbered (history-of called) (text-of called)) (c .refused .ensures)
+    lent-left (answered called (told .answer .given .1)) (refusals-are-numbered .booking (history-of called) (text-of called)) (c .refused .ensures)
 
 returns-2 : tie.Need-returns-2
 returns-2 c =

@@ -6,7 +6,7 @@ use Rattle.curve.specs.CurveText.{readCurves}
 use Rattle.curve_set.specs.declared.answer.Answer.{Answer}
 use Rattle.curve_set.specs.declared.Curves.{Curves}
 use Rattle.ordc.proofs.Answered.{lent-laid, lent-left}
-use Rattle.ordc.proofs.Numbered.{curves-numbered}
+use Rattle.ordc.proofs.Numbered.{refusals-are-numbered}
 use Rattle.ordc.proofs.curve_text.ordc_read_curves.Statement.{statement}
 use Rattle.ordc.proofs.curve_text.ordc_read_curves.Tie as tie
 
@@ -32,7 +32,7 @@ returns : tie.Need-returns
 returns c =
     let told = c .before .before in
     let read = told .before .before in
-    lent-left (answered read (told .answer .given .1)) (curves-numbered (now (read .before .before .args .text))) (c .refused .ensures)
+    lent-left (answered read (told .answer .given .1)) (refusals-are-numbered .reading (now (read .before .before .args .text))) (c .refused .ensures)
 
 returns-2 : tie.Need-returns-2
 returns-2 c =

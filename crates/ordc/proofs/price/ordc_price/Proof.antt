@@ -15,7 +15,7 @@ use Rattle.pricing.specs.Small.{SmallPrices, SmallPricing}
 use Rattle.pricing.proofs.Small.{priced-small}
 use Rattle.ordc.specs.Price.{pricingAnswer, pricingValues}
 use Rattle.ordc.proofs.Answered.{lent-laid, lent-left}
-use Rattle.ordc.proofs.Numbered.{priced-numbered}
+use Rattle.ordc.proofs.Numbered.{refusals-are-numbered}
 use Rattle.ordc.proofs.price.ordc_price.Statement.{statement}
 use Rattle.ordc.proofs.price.ordc_price.Tie as tie
 
@@ -64,7 +64,7 @@ returns : tie.Need-returns
 returns c =
     let told = c .before .before in
     let called = told .before .before in
-    lent-left (ap pricingAnswer (pricing called (told .pricing .given .1))) (priced-numbered (set called) (text-of called)) (c .refused .ensures)
+    lent-left (ap pricingAnswer (pricing called (told .pricing .given .1))) (refusals-are-numbered .pricing (set called) (text-of called)) (c .refused .ensures)
 
 returns-2 : tie.Need-returns-2
 returns-2 c =

@@ -8,7 +8,7 @@ use Rattle.curve_set.specs.declared.Curves.{Curves}
 use Rattle.settling.specs.Settle.{settled}
 use Rattle.ordc.specs.Record.{recordOf}
 use Rattle.ordc.proofs.Answered.{lent-laid, lent-left}
-use Rattle.ordc.proofs.Numbered.{settled-numbered}
+use Rattle.ordc.proofs.Numbered.{refusals-are-numbered}
 use Rattle.ordc.proofs.booking.settle.ordc_settle.Statement.{statement}
 use Rattle.ordc.proofs.booking.settle.ordc_settle.Tie as tie
 
@@ -45,7 +45,7 @@ returns : tie.Need-returns
 returns c =
     let told = c .before .before in
     let s = told .before .before .before .before in
-    lent-left (answered (told .before .before) (told .answer .given .1)) (settled-numbered (recordOf (now (s .args .history))) (s .args .voll) (s .args .floor)) (c .refused .ensures)
+    lent-left (answered (told .before .before) (told .answer .given .1)) (refusals-are-numbered .settling (recordOf (now (s .args .history))) (s .args .voll) (s .args .floor)) (c .refused .ensures)
 
 returns-2 : tie.Need-returns-2
 returns-2 c =

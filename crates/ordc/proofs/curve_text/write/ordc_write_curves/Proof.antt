@@ -8,7 +8,7 @@ use Rattle.curve.specs.declared.WrittenCurves.{WrittenCurves}
 use Rattle.curve_set.specs.declared.CurveSet.{CurveSet}
 use Rattle.ordc.specs.CurveText.{writingAnswer, writtenLength}
 use Rattle.ordc.proofs.Answered.{lent-laid, lent-left}
-use Rattle.ordc.proofs.Numbered.{writing-numbered}
+use Rattle.ordc.proofs.Numbered.{refusals-are-numbered}
 use Rattle.ordc.proofs.curve_text.write.ordc_write_curves.Statement.{statement}
 use Rattle.ordc.proofs.curve_text.write.ordc_write_curves.Tie as tie
 
@@ -47,7 +47,7 @@ returns c =
     let told = c .before .before in
     let called = told .before .before .before .before in
     record {
-      count = lent-left (ap writingAnswer (ends called (told .ended .given .1))) (writing-numbered (set called) (now (start called .args .buffer))) (c .refused .ensures);
+      count = lent-left (ap writingAnswer (ends called (told .ended .given .1))) (refusals-are-numbered .writing (set called) (now (start called .args .buffer))) (c .refused .ensures);
       bytes = written called .bytes;
     }
 
