@@ -3,8 +3,6 @@ use Prim.Native.Nat.{ℕ, zero, suc}
 use mathlib.Core.List.{List, [], _∷_}
 use lib.IntN.{ℤ, pos, negℤ}
 use Rattle.text.specs.Bytes.{bytes}
-use Rattle.answers.specs.Answers.{fault}
-use Rattle.text.specs.declared.refusal.Fault.{Fault}
 use Rattle.line.specs.Field.{Field, Answer, got, refused, fieldAt}
 use Rattle.number.specs.Field.{numberField}
 use Rattle.block.specs.Block.{readFields}
@@ -115,8 +113,3 @@ resourceAt text at = afterAnswer (fieldAt kindField text at) (λ k next. ofKind 
 abbrev pub linesAnswer : ResourceLines → Answer Resource
 linesAnswer (lines.Read found next) = got found next
 linesAnswer (lines.Refused found) = refused found
-
--- the fault of refused lines; 0 stands for no refusal
-abbrev pub linesFault : ResourceLines → Fault
-linesFault (lines.Read found next) = fault 0 next
-linesFault (lines.Refused found) = found

@@ -13,7 +13,6 @@ use Rattle.line.specs.Field.{Field, Answer, got, refused, fieldAt}
 use Rattle.number.specs.Field.{numberField}
 use Rattle.block.specs.Block.{readFields}
 use Rattle.id.specs.Id.{idField}
-use Rattle.text.specs.declared.refusal.Fault.{Fault}
 use Rattle.text.specs.declared.refusal.Refusal.{Refusal}
 use Rattle.answers.specs.declared.Block.{Block}
 use Rattle.answers.specs.declared.Block.the-variants as block
@@ -104,11 +103,6 @@ summed (refused found) = refused found
 abbrev pub resourcesAnswer : Resources → Answer Sums
 resourcesAnswer (resources.Read sums next) = got sums next
 resourcesAnswer (resources.Refused found) = refused found
-
--- the fault of refused resources; 0 stands for no refusal
-abbrev pub resourcesFault : Resources → Fault
-resourcesFault (resources.Read sums next) = fault 0 next
-resourcesFault (resources.Refused found) = found
 
 -- ---- the snapshot
 
