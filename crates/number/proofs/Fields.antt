@@ -24,7 +24,7 @@ use Rattle.answers.specs.declared.Line.{Line}
 use Rattle.answers.specs.declared.Line.the-variants as line
 use Rattle.line.specs.Field.{fieldAt, valueIn, judged, got, refused}
 use Rattle.number.specs.Number.{numberOf, inRange}
-use Rattle.number.specs.Written.{afterKey, lineNumber, signed, heldNumber, NumberLine, isOutside, noNumber}
+use Rattle.number.specs.Written.{afterKey, lineNumber, signed, heldNumber, NumberRead, isOutside, noNumber}
 use Rattle.number.specs.Field.{numberField, judgedNumber}
 use Rattle.number.proofs.Numbers.{held-ranged}
 
@@ -136,7 +136,7 @@ module _ (key text : List ℕ) (at : ℕ) where
       go false b = off b (ltb end (length text)) refl
 
   -- what was read after the key, and what the line then gives
-  module _ {s : List ℕ} (is : s ≡ value) (negative : Bool) (distance count : ℕ) (read : NumberLine s negative distance count) where
+  module _ {s : List ℕ} (is : s ≡ value) (negative : Bool) (distance count : ℕ) (read : NumberRead s negative distance count) where
     module _ (low high : ℤ) where
       pub number-missing : count ≡ 0 → noNumber at (lineAt key text at) ≡ fieldAt (numberField key low high) text at
       unfolding fieldAt

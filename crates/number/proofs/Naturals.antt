@@ -15,7 +15,7 @@ use Rattle.text.proofs.Choices.{and-left, and-right}
 use Rattle.line.specs.Line.{lineLength}
 use Rattle.line.proofs.Lines.{line-ends, line-goes-on, line-within}
 use Rattle.number.specs.Number.{isDigit, allDigits, valueOf, plain}
-use Rattle.number.specs.Written.{lineNatural, NaturalLine}
+use Rattle.number.specs.Written.{lineNatural, NaturalRead}
 use Rattle.number.proofs.Digits.{digit-at, plain-one, plain-many, plain-digits}
 
 -- so many bytes are digits, and their value is held at the limit
@@ -62,7 +62,7 @@ line-on (suc i) (byte ∷ s) h d =
 
 -- no natural number
 module _ (s : List ℕ) where
-  no-natural : lineNatural s ≡ none → NaturalLine s 0 0
+  no-natural : lineNatural s ≡ none → NaturalRead s 0 0
   unfolding valueOf
   no-natural e = record { nothing = λ q. e; natural = λ any. absurd (omega arith); held = omega arith; ended = λ any. absurd (omega arith) }
 
@@ -80,12 +80,12 @@ module _ (s : List ℕ) (i value : ℕ) (read : DigitsRead s i value) where
   goes-on = line-on i s (read .within) (read .digits)
 
   -- the text's end
-  pub natural-unended : length s ≤ i → NaturalLine s 0 0
+  pub natural-unended : length s ≤ i → NaturalRead s 0 0
   unfolding lineNatural
   natural-unended h = no-natural s (rw (le-ltb (lineLength s) (length s) (omega (arith, goes-on))))
 
   -- a byte that is neither a digit nor byte 10
-  pub natural-broken : i < length s → (getD s i 0 ≡ 10 → ⊥) → (48 ≤ getD s i 0 → getD s i 0 ≤ 57 → ⊥) → NaturalLine s 0 0
+  pub natural-broken : i < length s → (getD s i 0 ≡ 10 → ⊥) → (48 ≤ getD s i 0 → getD s i 0 ≤ 57 → ⊥) → NaturalRead s 0 0
   natural-broken h on other = no-natural s (not-plain s (go (plain line) refl))
     where
       line : List ℕ
@@ -109,7 +109,7 @@ module _ (s : List ℕ) (i value : ℕ) (read : DigitsRead s i value) where
     size : length (take i s) ≡ i
     size = omega (arith, length-take i s)
 
-    read-natural : (0 < i → plain (take i s) ≡ true) → NaturalLine s value i
+    read-natural : (0 < i → plain (take i s) ≡ true) → NaturalRead s value i
     unfolding lineNatural
     read-natural p =
         record {
@@ -119,20 +119,20 @@ module _ (s : List ℕ) (i value : ℕ) (read : DigitsRead s i value) where
           ended = λ any. ends;
         }
 
-    pub natural-few : i ≤ 1 → NaturalLine s value i
+    pub natural-few : i ≤ 1 → NaturalRead s value i
     natural-few few = read-natural (λ any. plain-one (take i s) (omega (arith, size)) ∙ read .digits)
 
     module _ (many : 1 < i) where
       first : getD (take i s) 0 0 ≡ getD s 0 0
       first = getD-take i s 0 0 (omega arith)
 
-      pub natural-zero : getD s 0 0 ≡ 48 → NaturalLine s 0 0
+      pub natural-zero : getD s 0 0 ≡ 48 → NaturalRead s 0 0
       natural-zero z = no-natural s (not-plain s (rw ends (plain-many (take i s) (omega (arith, size)) ∙ rw (first, eq-eqb (getD s 0 0) 48 z))))
 
-      pub natural-many : (getD s 0 0 ≡ 48 → ⊥) → NaturalLine s value i
+      pub natural-many : (getD s 0 0 ≡ 48 → ⊥) → NaturalRead s value i
       natural-many n = read-natural (λ any. plain-many (take i s) (omega (arith, size)) ∙ rw (first, ne-eqb (getD s 0 0) 48 n) (read .digits))
 
 -- a number is within the text
-pub natural-within : {s : List ℕ} (m n : ℕ) → NaturalLine s m n → n ≤ length s
+pub natural-within : {s : List ℕ} (m n : ℕ) → NaturalRead s m n → n ≤ length s
 natural-within m zero read = omega arith
 natural-within {s} m (suc n) read = omega (arith, read .ended (omega arith), line-within s)

@@ -19,7 +19,7 @@ use Rattle.line.specs.Line.{lineLength}
 use Rattle.line.proofs.Lines.{line-goes-on}
 use Rattle.number.specs.Number.{valueOf, naturalOf, positive, negative, numberOf, inRange, ranged}
 use Rattle.number.specs.Number as number
-use Rattle.number.specs.Written.{lineNatural, NaturalLine, lineNumber, signed, heldNumber, NumberLine, isOutside}
+use Rattle.number.specs.Written.{lineNatural, NaturalRead, lineNumber, signed, heldNumber, NumberRead, isOutside}
 
 -- ---- signed numbers
 
@@ -123,7 +123,7 @@ negative-some zero h = absurd (omega arith)
 negative-some (suc n) h = let e : suc n - 1 ≡ n = omega arith in rw e
 
 module _ (s : List ℕ) where
-  no-number : lineNumber s ≡ none → NumberLine s false 0 0
+  no-number : lineNumber s ≡ none → NumberRead s false 0 0
   no-number e =
       record {
         nothing = λ q. e;
@@ -131,12 +131,12 @@ module _ (s : List ℕ) where
         ended = λ any. absurd (omega arith);
       }
 
-  pub number-empty : length s ≡ 0 → NumberLine s false 0 0
+  pub number-empty : length s ≡ 0 → NumberRead s false 0 0
   unfolding lineNumber
   number-empty e = no-number (rw (e, le-ltb (lineLength s) 0 (omega arith)))
 
   -- no `-` in front
-  pub number-plain : (getD s 0 0 ≡ 45 → ⊥) → (m n : ℕ) → NaturalLine s m n → NumberLine s false m n
+  pub number-plain : (getD s 0 0 ≡ 45 → ⊥) → (m n : ℕ) → NaturalRead s m n → NumberRead s false m n
   unfolding lineNumber lineNatural
   number-plain other m n read =
       record {
@@ -162,15 +162,15 @@ minus-line (byte ∷ s) h e = rw (e, leb·suc-suc) (case (ltb (lineLength s) (le
     case true o = refl
     case false o = refl
 
-module _ (s : List ℕ) (h : 0 < length s) (minus : getD s 0 0 ≡ 45) (m n : ℕ) (read : NaturalLine (drop 1 s) m n) where
-  pub number-zero : m ≡ 0 → NumberLine s false 0 0
+module _ (s : List ℕ) (h : 0 < length s) (minus : getD s 0 0 ≡ 45) (m n : ℕ) (read : NaturalRead (drop 1 s) m n) where
+  pub number-zero : m ≡ 0 → NumberRead s false 0 0
   number-zero z = no-number s (minus-line s h minus ∙ go n read)
     where
-      go : (n : ℕ) → NaturalLine (drop 1 s) m n → negative (lineNatural (drop 1 s)) ≡ none
+      go : (n : ℕ) → NaturalRead (drop 1 s) m n → negative (lineNatural (drop 1 s)) ≡ none
       go zero read = rw (read .nothing refl)
       go (suc n) read = let v : valueOf 0 (take (suc n) (drop 1 s)) ≡ 0 = omega (arith, read .held) in rw (read .natural (omega arith), v)
 
-  pub number-minus : (m ≡ 0 → ⊥) → NumberLine s true (m - 1) (n + 1)
+  pub number-minus : (m ≡ 0 → ⊥) → NumberRead s true (m - 1) (n + 1)
   unfolding valueOf
   number-minus not-zero =
       let v = valueOf 0 (take n (drop 1 s)) in
@@ -182,6 +182,6 @@ module _ (s : List ℕ) (h : 0 < length s) (minus : getD s 0 0 ≡ 45) (m n : �
         ended = λ any. omega (arith, line-goes-on s 0 h (λ q. omega arith), read .ended some);
       }
     where
-      go : (n : ℕ) → NaturalLine (drop 1 s) m n → 0 < n
+      go : (n : ℕ) → NaturalRead (drop 1 s) m n → 0 < n
       go zero read = absurd (not-zero (omega (arith, read .held)))
       go (suc n) read = omega arith

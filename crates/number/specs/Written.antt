@@ -25,7 +25,7 @@ unfoldable pub lineNatural : List ℕ → Option ℕ
 lineNatural s = pick (ltb (lineLength s) (length s)) (naturalOf (take (lineLength s) s)) none
 
 -- it takes so many bytes, none where there is no such number
-pub record NaturalLine (s : List ℕ) (magnitude count : ℕ) : Type 0 where
+pub record NaturalRead (s : List ℕ) (magnitude count : ℕ) : Type 0 where
   pub nothing : count ≡ 0 → lineNatural s ≡ none
   pub natural : 0 < count → lineNatural s ≡ some (valueOf 0 (take count s))
   pub held : magnitude ≡ min (valueOf 0 (take count s)) 9223372036854775809
@@ -40,16 +40,19 @@ abbrev pub signed : Bool → ℕ → ℤ
 signed true distance = negsuc distance
 signed false distance = pos distance
 
+-- a number whose magnitude is held
 abbrev pub heldNumber : Option ℤ → Option ℤ
 heldNumber none = none
 heldNumber (some (pos n)) = some (pos (min n 9223372036854775809))
 heldNumber (some (negsuc n)) = some (negsuc (min n 9223372036854775808))
 
-pub record NumberLine (s : List ℕ) (negative : Bool) (distance count : ℕ) : Type 0 where
+-- it takes so many bytes, none where there is no such number
+pub record NumberRead (s : List ℕ) (negative : Bool) (distance count : ℕ) : Type 0 where
   pub nothing : count ≡ 0 → lineNumber s ≡ none
   pub number : 0 < count → heldNumber (lineNumber s) ≡ some (signed negative distance)
   pub ended : 0 < count → lineLength s ≡ count
 
+-- outside its range, which is refused by 7
 abbrev pub isOutside : ℤ → ℤ → ℤ → Bool
 isOutside low high z = not (leZ low z && leZ z high)
 

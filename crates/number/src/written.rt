@@ -2,7 +2,7 @@
 ghost use mathlib.Core.Path.{_≡_};
 ghost use mathlib.Core.Bool.{false};
 ghost use Prim.Native.Nat.{_≤_, _+_, _-_, _*_, min};
-ghost use Rattle.number.specs.Written.{NaturalLine, NumberLine};
+ghost use Rattle.number.specs.Written.{NaturalRead, NumberRead};
 
 // The number that is a line, and how many bytes it takes; none where it takes no bytes.
 pub(crate) struct Written {
@@ -35,7 +35,7 @@ fn one_digit_more(value: u64, digit: u8) -> u64
 
 // The natural number that is the first line of a text: digits up to byte 10, none where a zero leads other digits.
 fn natural_line(text: &[u8]) -> Written
-    ensures { λ r. ⌜ (r .negative ≡ false) × NaturalLine (now (text .entry)) (r .distance) (r .length) ⌝ }
+    ensures { λ r. ⌜ (r .negative ≡ false) × NaturalRead (now (text .entry)) (r .distance) (r .length) ⌝ }
 {
     let mut value: u64 = 0;
     let mut i: usize = 0;
@@ -72,7 +72,7 @@ fn natural_line(text: &[u8]) -> Written
 
 // The number that is the first line of a text, `-` in front if below zero.
 pub(crate) fn number_line(text: &[u8]) -> Written
-    ensures { λ r. ⌜ NumberLine (now (text .entry)) (r .negative) (r .distance) (r .length) ⌝ }
+    ensures { λ r. ⌜ NumberRead (now (text .entry)) (r .negative) (r .distance) (r .length) ⌝ }
 {
     if text.len() == 0 {
         return NONE;
