@@ -46,6 +46,20 @@ fn every_field_of_an_hour_counts() {
     assert_eq!(booked(&full_hour()), Ok(expected));
 }
 
+/// The hour of docs/FORMAT.md.
+#[test]
+fn example_of_three_runs() {
+    let error = 1_837_334;
+    let mut expected = Record::fresh();
+    expected.groups[15] = Group {
+        count: 1,
+        sum: error,
+        squares: error * error,
+    };
+    let text = include_str!("../../bindings/python/examples/hour.txt");
+    assert_eq!(booked(text), Ok(expected));
+}
+
 #[test]
 fn the_mean_of_the_runs_goes_down() {
     // SCED sums to -1 over two runs: the mean is -1, not 0.

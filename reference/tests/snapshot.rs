@@ -44,6 +44,21 @@ fn worked_example() {
     assert_eq!(price(&example_snapshot()), Ok(expected));
 }
 
+/// The snapshot of docs/FORMAT.md.
+#[test]
+fn example_of_all_kinds() {
+    let text = include_str!("../../bindings/python/examples/snapshots/5-all-kinds.txt");
+    let expected = Prices {
+        rs: 2_626_301,
+        rsns: 3_194_701,
+        pis: 187_850_153,
+        pins: 116_104_844,
+        online: 136_096,
+        offline: 51_986,
+    };
+    assert_eq!(price(text), Ok(expected));
+}
+
 #[test]
 fn prc_at_eea1_leaves_off_line_reserve_out() {
     let text = with_line(&example_snapshot(), "prc=3000000", "prc=2300000");

@@ -10,6 +10,10 @@ EXAMPLES = pathlib.Path(__file__).resolve().parents[1] / "examples"
 CURVES = (EXAMPLES / "listing.curves").read_bytes()
 LISTING = (EXAMPLES / "snapshots" / "1-listing.txt").read_bytes()
 PRICES = ordc.Prices(2707000, 3000000, 158655254, 158655254, 142393, 71197)
+# the examples of docs/FORMAT.md
+ALL_KINDS = (EXAMPLES / "snapshots" / "5-all-kinds.txt").read_bytes()
+THREE_RUNS = (EXAMPLES / "hour.txt").read_bytes()
+FORMAT = (EXAMPLES.parents[2] / "docs" / "FORMAT.md").read_bytes()
 HOUR = (
     "month={}\nhour={}\nongen={}\nload=0\ntie=0\nns=0\nreg=0\nrrs=0\nnclr=0\noffns=0\ncold30=0\nshed=0\nruns=1\n"
     "hsl=1000\nbase=0\nrrs=0\nnclr=0\nreg=0\nns=0\noffns=0\ncold30=0\nshort=0\n"
@@ -37,6 +41,22 @@ class Operations(unittest.TestCase):
 
     def test_listing(self):
         self.assertEqual(ordc.price(ordc.read_curves(CURVES), LISTING), PRICES)
+
+    def test_all_kinds(self):
+        expected = ordc.Prices(2626301, 3194701, 187850153, 116104844, 136096, 51986)
+        self.assertEqual(ordc.price(ordc.read_curves(CURVES), ALL_KINDS), expected)
+
+    def test_hour_of_three_runs(self):
+        error = 1837334
+        record = ordc.book(ordc.Record(), THREE_RUNS)
+        self.assertEqual(record.groups[15], ordc.Group(1, error, error * error))
+        self.assertEqual(sum(group.count for group in record.groups), 1)
+
+    def test_examples_stand_in_the_document(self):
+        # docs/FORMAT.md has several lines of a text in one line, with a space for each byte 10 but the last of the line.
+        document = FORMAT.replace(b" ", b"\n")
+        self.assertIn(b"\n" + ALL_KINDS, document)
+        self.assertIn(b"\n" + THREE_RUNS, document)
 
     def test_settling(self):
         curves = ordc.settle(booked(-1, 2), 900000, 2000000)

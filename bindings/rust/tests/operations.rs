@@ -1,6 +1,8 @@
 use ordc::{CurveSet, Group, Pair, Prices, Record, Refusal, GROUPS};
 
 const LISTING: &str = include_str!("../../python/examples/snapshots/1-listing.txt");
+const ALL_KINDS: &[u8] = include_bytes!("../../python/examples/snapshots/5-all-kinds.txt");
+const THREE_RUNS: &[u8] = include_bytes!("../../python/examples/hour.txt");
 const CURVES: &[u8] = include_bytes!("../../python/examples/listing.curves");
 const PRICES: Prices = Prices {
     rs: 2_707_000,
@@ -42,6 +44,35 @@ fn refused<T: std::fmt::Debug>(answer: Result<T, Refusal>, number: u64, line: u6
 #[test]
 fn the_listing() {
     assert_eq!(curves().price(LISTING.as_bytes()), Ok(PRICES));
+}
+
+/// The snapshot of docs/FORMAT.md.
+#[test]
+fn all_kinds_of_resource() {
+    let prices = Prices {
+        rs: 2_626_301,
+        rsns: 3_194_701,
+        pis: 187_850_153,
+        pins: 116_104_844,
+        online: 136_096,
+        offline: 51_986,
+    };
+    assert_eq!(curves().price(ALL_KINDS), Ok(prices));
+}
+
+/// The hour of docs/FORMAT.md: its error is booked in the group of July, hour 14, and in no other.
+#[test]
+fn an_hour_of_three_runs() {
+    let error = 1_837_334;
+    let mut expected = Record::default();
+    expected.groups[15] = Group {
+        count: 1,
+        sum: error,
+        squares: error * error,
+    };
+    let mut record = Record::default();
+    record.book(THREE_RUNS).unwrap();
+    assert_eq!(record, expected);
 }
 
 #[test]
