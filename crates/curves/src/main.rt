@@ -1,44 +1,78 @@
 // The program `curves`: history hours on standard input to the curve text on standard output.
+use libc::STDERR_FILENO;
 use libc::STDIN_FILENO;
 use libc::STDOUT_FILENO;
 use piece::part;
 use stream::Stream;
+use stream::is_refused;
+use stream::start;
+use stream_input::feed;
+use stream_output::finish;
 
 // No input has more reads than this, so that the program ends.
 const MOST_READS: u64 = 1099511627776;
 
-// The next bytes of the input; none at its end.
-fn read(input: &mut [u8; 65536]) -> usize {
+// What a read gave: so many bytes, none at the input's end. A read that fails is not the end.
+enum Input {
+    Read { length: usize },
+    Failed,
+}
+
+fn read(input: &mut [u8; 65536]) -> Input {
     let got = libc::read(STDIN_FILENO, input);
-    io::count(got, input)
+    if got < 0 {
+        return Input::Failed;
+    }
+    let length = io::count(got, input);
+    Input::Read { length }
 }
 
-fn feed(current: Stream, buffer: &mut [u8; 65536], input: &[u8; 65536], count: usize) -> Stream {
-    stream_input::feed(current, buffer, part(input, 0, count))
+fn feed_read(
+    current: Stream,
+    buffer: &mut [u8; 65536],
+    input: &[u8; 65536],
+    length: usize,
+) -> Stream {
+    feed(current, buffer, part(input, 0, length))
 }
 
-fn print(output: &[u8; 768], count: usize) {
-    io::write_all(STDOUT_FILENO, part(output, 0, count));
+fn print(output: &[u8; 768], length: usize) {
+    io::write_all(STDOUT_FILENO, part(output, 0, length));
+}
+
+// The input has ended, or is refused: prints the curve text, or the refusal.
+fn print_answer(current: Stream, buffer: &[u8; 65536]) {
+    let mut output = [0u8; 768];
+    let length = finish(current, buffer, &mut output);
+    print(&output, length);
+}
+
+// The input has not been read to its end: prints nothing on standard output.
+fn stop() {
+    io::write_all(STDERR_FILENO, b"curves: standard input could not be read\n");
 }
 
 fn main() {
     let mut buffer = io::large_buffer();
     let mut input = io::large_buffer();
-    let mut current = stream::start();
+    let mut current = start();
     let mut reads: u64 = 0;
     while reads < MOST_READS {
-        let count = read(&mut input);
-        if count == 0 {
+        let got = read(&mut input);
+        let Input::Read { length } = got else {
             break;
+        };
+        if length == 0 {
+            print_answer(current, &buffer);
+            return;
         }
-        current = feed(current, &mut buffer, &input, count);
+        current = feed_read(current, &mut buffer, &input, length);
         let stage = current.stage;
-        if stream::is_refused(stage) {
-            break;
+        if is_refused(stage) {
+            print_answer(current, &buffer);
+            return;
         }
         reads += 1;
     }
-    let mut output = [0u8; 768];
-    let length = stream_output::finish(current, &buffer, &mut output);
-    print(&output, length);
+    stop();
 }

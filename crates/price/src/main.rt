@@ -1,20 +1,50 @@
 // Prices one snapshot on a curve text: standard input to standard output.
+use libc::STDERR_FILENO;
 use libc::STDIN_FILENO;
 use libc::STDOUT_FILENO;
+use piece::part;
+use price_text::price_text;
 use writer::Written;
+
+// What was read: so many bytes up to the input's end or the space's, or a read failed.
+enum Input {
+    Read { length: usize },
+    Failed,
+}
 
 // Room for one byte more than the most that is accepted, so that a longer input is seen as such.
 fn input_space() -> [u8; 65537] {
     [0; 65537]
 }
 
+// Reads until the input ends or the space is full. A read that fails is not the end of the input.
+fn read_input(space: &mut [u8]) -> Input {
+    let mut length: usize = 0;
+    while length < space.len() {
+        let got = libc::read(STDIN_FILENO, &mut space[length..]);
+        if got < 0 {
+            return Input::Failed;
+        }
+        let count = io::count(got, &space[length..]);
+        if count == 0 {
+            return Input::Read { length };
+        }
+        length += count;
+    }
+    Input::Read { length }
+}
+
 fn main() {
-    let mut input = input_space();
-    let n = io::read_full(STDIN_FILENO, &mut input);
+    let mut space = input_space();
+    let input = read_input(&mut space);
+    let Input::Read { length } = input else {
+        io::write_all(STDERR_FILENO, b"price: standard input could not be read\n");
+        return;
+    };
     let mut output = [0u8; 256];
-    let written = price_text::price_text(&input[..n], &mut output);
+    let written = price_text(part(&space, 0, length), &mut output);
     let Written::Ended { next } = written else {
         return;
     };
-    io::write_all(STDOUT_FILENO, piece::part(&output, 0, next));
+    io::write_all(STDOUT_FILENO, part(&output, 0, next));
 }

@@ -25,11 +25,29 @@ loop-holds c = search needs
 read-requires : tie.Need-read-requires Inv-loop μ-loop
 read-requires c κs = search needs
 
-feed-requires : tie.Need-feed-requires Inv-loop μ-loop
-feed-requires c κs = search needs
+enum-known-got : tie.Need-enum-known-got Inv-loop μ-loop
+enum-known-got c = search needs
+
+enum-told : tie.Need-enum-told Inv-loop μ-loop
+enum-told c = search needs
+
+print-answer-requires : tie.Need-print-answer-requires Inv-loop μ-loop
+print-answer-requires c κs = search needs
+
+returns : tie.Need-returns Inv-loop μ-loop
+returns c = search needs
+
+feed-read-requires : tie.Need-feed-read-requires Inv-loop μ-loop
+feed-read-requires c κs = search needs
 
 is-refused-requires : tie.Need-is-refused-requires Inv-loop μ-loop
 is-refused-requires c κs = search needs
+
+print-answer-requires-2 : tie.Need-print-answer-requires-2 Inv-loop μ-loop
+print-answer-requires-2 c κs = search needs
+
+returns-2 : tie.Need-returns-2 Inv-loop μ-loop
+returns-2 c = search needs
 
 add-reads : tie.Need-add-reads Inv-loop μ-loop
 add-reads c = search needs
@@ -40,14 +58,11 @@ loop-less c = search needs
 loop-again : tie.Need-loop-again Inv-loop μ-loop
 loop-again c = search needs
 
-finish-requires : tie.Need-finish-requires Inv-loop μ-loop
-finish-requires c κs = search needs
+stop-requires : tie.Need-stop-requires Inv-loop μ-loop
+stop-requires c κs = search needs
 
-print-requires : tie.Need-print-requires Inv-loop μ-loop
-print-requires c κs = search needs
-
-returns : tie.Need-returns Inv-loop μ-loop
-returns c = search needs
+returns-3 : tie.Need-returns-3 Inv-loop μ-loop
+returns-3 c = search needs
 
 pub main-spec : {M : Type 1} → statement M
 main-spec =
@@ -60,11 +75,16 @@ main-spec =
     start-requires
     loop-holds
     read-requires
-    feed-requires
+    enum-known-got
+    enum-told
+    print-answer-requires
+    returns
+    feed-read-requires
     is-refused-requires
+    print-answer-requires-2
+    returns-2
     add-reads
     loop-less
     loop-again
-    finish-requires
-    print-requires
-    returns)
+    stop-requires
+    returns-3)
