@@ -11,15 +11,21 @@
  *
  * No function keeps state, allocates or blocks. Calls from several threads on data of their own need no lock.
  *
- * The layout, here and nowhere else:
+ * A thread with a stack of ORDC_STACK bytes can make any of these calls, whatever is handed over. Of these bytes
+ * ordc_price takes about 100 KiB, whether the snapshot is long or short, and the others less than 8 KiB each. This is
+ * tested (bindings/c/stack.c) and not proved.
+ *
+ * The layout:
  *   record      ORDC_RECORD = 72 numbers: count, sum (kW) and sum of squares (kW^2) of the reserve errors of group 0,
  *               then of group 1, and so on to group 23. A fresh record is all zeros. Count 0..1000, sum within
- *               +-(count * 20000000), squares 0..count * 400000000000000.
+ *               +-(count * 20000000), squares 0..count * 400000000000000; and where count is at least 1,
+ *               squares - 2 * m * sum + count * m * m is at least 0 for m = floor(sum / count) and for m one more.
+ *               Any other record is impossible.
  *               Group = 6 * season + hour / 4; season 0 is December to February, 1 March to May, 2 June to August,
  *               3 September to November.
  *   curve set   ORDC_CURVES = 50 numbers: VOLL (cents per MWh, 0..2000000), X, the minimum contingency level (kW,
  *               0..20000000), then mean (kW, -20000000..20000000) and spread (kW, 1..20000000) of group 0, of group 1,
- *               and so on to group 23.
+ *               and so on to group 23. A curve set with a number outside its range is impossible.
  *   answer      ORDC_ANSWER = 6 numbers in the order of enum ordc_place.
  */
 #ifndef ORDC_H
@@ -37,7 +43,8 @@ enum {
     ORDC_RECORD = 72,
     ORDC_CURVES = 50,
     ORDC_ANSWER = 6,
-    ORDC_CURVE_TEXT = 700 /* no written curve text is longer */
+    ORDC_CURVE_TEXT = 700, /* no written curve text is longer */
+    ORDC_STACK = 262144    /* no call needs a larger stack, in bytes */
 };
 
 /* Where each number stands in an answer. */

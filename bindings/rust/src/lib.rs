@@ -23,6 +23,9 @@ pub use refusal::Refusal;
 /// Four seasons of six four-hour blocks.
 pub const GROUPS: usize = 24;
 
+/// No operation needs more bytes of stack than this, whatever it is handed.
+pub const STACK: usize = raw::STACK;
+
 /// The reserve errors of one group.
 #[derive(Clone, Copy, Debug, Default, PartialEq, Eq)]
 pub struct Group {

@@ -6,6 +6,7 @@ pub const RECORD: usize = 72;
 pub const CURVES: usize = 50;
 pub const ANSWER: usize = 6;
 pub const CURVE_TEXT: usize = 700;
+pub const STACK: usize = 262_144;
 
 #[repr(C)]
 struct RawRefusal {

@@ -165,7 +165,8 @@ fn threads_get_the_same_answers() {
     }
 }
 
-/// As many resources as a snapshot can have, each of as many bytes as it can have; only the last one is counted.
+/// As many resources as a snapshot can have, each of as many bytes as it can have; only the last one is counted. The
+/// thread has the stack that is promised to be enough.
 #[test]
 fn the_longest_snapshot_is_priced() {
     let mut text = String::from(
@@ -178,7 +179,9 @@ fn the_longest_snapshot_is_priced() {
         ));
     }
     assert!(text.len() < 1_048_576);
-    let prices = curves().price(text.as_bytes()).expect("it is accepted");
+    let thread = std::thread::Builder::new().stack_size(ordc::STACK);
+    let pricing = thread.spawn(move || curves().price(text.as_bytes()));
+    let prices = pricing.unwrap().join().unwrap().expect("it is accepted");
     // hsl - base - nonspin of the one unit, less the under-generation
     assert_eq!(prices.rs, 2_000_000 - 1_000_000 - 2_000_000 - 200_000_000);
 }

@@ -1,0 +1,161 @@
+/* Runs every function in a thread whose stack is ORDC_STACK bytes, as the header promises, and tells how much of it was used. */
+#define _GNU_SOURCE
+#include "ordc.h"
+
+#include <pthread.h>
+#include <stdarg.h>
+#include <stdio.h>
+#include <stdlib.h>
+#include <string.h>
+#include <sys/mman.h>
+#include <unistd.h>
+
+enum { MARK = 0xa5 };
+
+static int64_t record[ORDC_RECORD], curves[ORDC_CURVES], answer[ORDC_ANSWER];
+static uint8_t written[ORDC_CURVE_TEXT];
+static size_t written_length;
+static char text[1 << 20];
+static size_t length;
+static struct ordc_refusal refusal;
+
+static void add(const char *form, ...)
+{
+    va_list values;
+    va_start(values, form);
+    length += (size_t)vsnprintf(text + length, sizeof text - length, form, values);
+    va_end(values);
+}
+
+/* An hour of so many runs, all its powers `power`. */
+static void hour(int month, int clock, int runs, int power)
+{
+    length = 0;
+    add("month=%d\nhour=%d\nongen=%d\nload=0\ntie=0\nns=0\nreg=0\nrrs=0\nnclr=0\noffns=0\ncold30=0\nshed=0\nruns=%d\n", month, clock, power, runs);
+    while (runs-- > 0) {
+        add("hsl=1\nbase=0\nrrs=0\nnclr=0\nreg=0\nns=0\noffns=0\ncold30=0\nshort=0\n");
+    }
+}
+
+/* A snapshot of so many resources, of every kind. */
+static void snapshot(int resources)
+{
+    static const char *const KINDS[] = {"gen", "wind", "irr", "nuke"};
+    length = 0;
+    add("month=7\nhour=14\nlambda=2500\nfactor=9500\nprc=3000000\neea1=2300000\nshort=0\ncount=%d\n", resources);
+    for (int i = 0; i < resources; i++) {
+        add("id=RESOURCE_%d\n", i);
+        if (i % 8 == 6) {
+            add("kind=clr\nbase=2000\nlpc=10\nnonspin=5\nregup=6\n");
+        } else if (i % 8 == 7) {
+            add("kind=nclr\nrrsok=1\nnet=1000\nlpc=10\nrrs=400\n");
+        } else {
+            add("kind=%s\nstatus=ON\nnet=2000\nlsl=1000\nhsl=3000\nbase=1000\nnonspin=5\ncold30=0\n", KINDS[i % 4]);
+        }
+    }
+}
+
+static void *nothing(void *none)
+{
+    return none;
+}
+
+static void *book(void *none)
+{
+    refusal = ordc_book(record, (const uint8_t *)text, length);
+    return none;
+}
+
+static void *settle(void *none)
+{
+    refusal = ordc_settle(record, 900000, 2000000, curves);
+    return none;
+}
+
+static void *write_curves(void *none)
+{
+    refusal = ordc_write_curves(curves, written, sizeof written, &written_length);
+    return none;
+}
+
+static void *read_curves(void *none)
+{
+    refusal = ordc_read_curves(written, written_length, curves);
+    return none;
+}
+
+static void *price(void *none)
+{
+    refusal = ordc_price(curves, (const uint8_t *)text, length, answer);
+    return none;
+}
+
+static void expect(int holds, const char *what)
+{
+    if (!holds) {
+        fprintf(stderr, "%s: number %u, line %u\n", what, (unsigned)refusal.number, (unsigned)refusal.line);
+        exit(EXIT_FAILURE);
+    }
+}
+
+/* Runs a call in a thread of ORDC_STACK bytes, which lie above a page that nobody may touch, and counts the bytes that were written to. */
+static size_t used(void *(*call)(void *))
+{
+    size_t page = (size_t)sysconf(_SC_PAGESIZE);
+    uint8_t *area = mmap(NULL, page + ORDC_STACK, PROT_READ | PROT_WRITE, MAP_PRIVATE | MAP_ANONYMOUS, -1, 0);
+    expect(area != MAP_FAILED && mprotect(area, page, PROT_NONE) == 0, "no memory");
+    uint8_t *stack = area + page;
+    memset(stack, MARK, ORDC_STACK);
+    pthread_attr_t attributes;
+    pthread_t thread;
+    expect(pthread_attr_init(&attributes) == 0 && pthread_attr_setstack(&attributes, stack, ORDC_STACK) == 0 && pthread_create(&thread, &attributes, call, NULL) == 0 && pthread_join(thread, NULL) == 0, "no thread");
+    pthread_attr_destroy(&attributes);
+    size_t left = 0;
+    while (left < ORDC_STACK && stack[left] == MARK) {
+        left++;
+    }
+    munmap(area, page + ORDC_STACK);
+    return ORDC_STACK - left;
+}
+
+static size_t most;
+
+/* One call with what it must answer. */
+static void try_call(const char *what, void *(*call)(void *), uint64_t number)
+{
+    size_t bytes = used(call);
+    expect(refusal.number == number, what);
+    printf("%-40s%8zu bytes\n", what, bytes);
+    most = bytes > most ? bytes : most;
+}
+
+int main(void)
+{
+    try_call("a thread that calls nothing", nothing, ORDC_ACCEPTED);
+    hour(7, 14, 60, 1);
+    try_call("book, 60 runs", book, ORDC_ACCEPTED);
+    length--;
+    try_call("book, the last line not ended", book, ORDC_LINE_ABSENT);
+    try_call("settle, no hours", settle, ORDC_TOO_FEW_HOURS);
+    memset(record, 0, sizeof record);
+    for (int group = 0; group < 2 * ORDC_GROUPS; group++) {
+        hour(3 * (group / 2 / 6) + 1, 4 * (group / 2 % 6), 1, group % 2 == 0 ? 1 : 1000001);
+        book(NULL);
+        expect(refusal.number == ORDC_ACCEPTED, "book");
+    }
+    try_call("settle", settle, ORDC_ACCEPTED);
+    try_call("write curves", write_curves, ORDC_ACCEPTED);
+    try_call("read curves", read_curves, ORDC_ACCEPTED);
+    snapshot(3);
+    try_call("price, 3 resources", price, ORDC_ACCEPTED);
+    snapshot(64);
+    try_call("price, 64 resources", price, ORDC_ACCEPTED);
+    snapshot(65);
+    try_call("price, 65 resources", price, ORDC_ACCEPTED);
+    snapshot(4096);
+    try_call("price, 4096 resources", price, ORDC_ACCEPTED);
+    text[length++] = '\n';
+    try_call("price, a byte after 4096 resources", price, ORDC_BYTES_FOLLOW);
+    printf("at most %zu of %d bytes\n", most, (int)ORDC_STACK);
+    return EXIT_SUCCESS;
+}
