@@ -4,8 +4,11 @@
 #   make examples                the examples in C, Rust and Python
 #   make tests                   the tests of the bindings in Rust and Python
 #   make damaged                 damaged texts handed to every function, under valgrind
+#   make stack                   every function in a thread with the stack that the header promises to be enough
 #   make programs                both programs beside the second implementation, and the memory of `curves`
+#   make wrong-mains             wrong versions of both programs, each of which an input of `make programs` must tell
 #   make bench                   the library beside the second implementation (a report, not a test)
+# What needs the library builds it first, where it is not there or older than a source.
 PREFIX ?= /usr/local
 DESTDIR ?=
 CC ?= cc
@@ -13,51 +16,71 @@ CFLAGS ?= -O2
 PYTHON ?= python3
 VERSION := 1.0.0
 BUILD := $(CURDIR)/target/staticlib
+ARCHIVE := $(BUILD)/libordc.a
+SHARED := $(BUILD)/libordc.so
 WARNINGS := -std=c11 -Wall -Wextra -Werror
+SOURCES := crates.txt $(shell find crates -name '*.rt' -o -name '*.antt')
+# The second implementation, where cargo puts it.
+COMPILED := $(or $(CARGO_TARGET_DIR),$(CURDIR)/reference/target)
+REFERENCE := $(COMPILED)/release/reference
 
-.PHONY: lib shared install examples c-example rust-example python-example tests damaged programs bench
+.PHONY: lib install examples c-example rust-example python-example tests damaged stack programs wrong-mains reference both-programs bench
+.DELETE_ON_ERROR:
 
-lib:
+lib: $(ARCHIVE) $(SHARED)
+
+$(ARCHIVE): $(SOURCES)
 	rt staticlib ordc
-	$(MAKE) shared
 
 # the same code as the archive's, which is position independent
-shared:
-	$(CC) -shared -o $(BUILD)/libordc.so -Wl,-soname,libordc.so -Wl,-z,defs -Wl,--whole-archive $(BUILD)/libordc.a -Wl,--no-whole-archive
+$(SHARED): $(ARCHIVE)
+	$(CC) -shared -o $@ -Wl,-soname,libordc.so -Wl,-z,defs -Wl,--whole-archive $< -Wl,--no-whole-archive
 
-install:
+install: lib
 	install -d $(DESTDIR)$(PREFIX)/include $(DESTDIR)$(PREFIX)/lib/pkgconfig
 	install -m 644 include/ordc.h $(DESTDIR)$(PREFIX)/include/ordc.h
-	install -m 644 $(BUILD)/libordc.a $(DESTDIR)$(PREFIX)/lib/libordc.a
-	install -m 755 $(BUILD)/libordc.so $(DESTDIR)$(PREFIX)/lib/libordc.so
+	install -m 644 $(ARCHIVE) $(DESTDIR)$(PREFIX)/lib/libordc.a
+	install -m 755 $(SHARED) $(DESTDIR)$(PREFIX)/lib/libordc.so
 	sed -e 's|@PREFIX@|$(PREFIX)|' -e 's|@VERSION@|$(VERSION)|' bindings/c/ordc.pc.in > $(DESTDIR)$(PREFIX)/lib/pkgconfig/ordc.pc
 
 examples: c-example rust-example python-example
 
-c-example:
-	$(CC) $(WARNINGS) $(CFLAGS) -Iinclude bindings/c/example.c $(BUILD)/libordc.a -o $(BUILD)/example
+$(BUILD)/example $(BUILD)/damaged $(BUILD)/stack: $(BUILD)/%: bindings/c/%.c include/ordc.h $(ARCHIVE)
+	$(CC) $(WARNINGS) -g $(CFLAGS) -pthread -Iinclude $< $(ARCHIVE) -o $@
+
+c-example: $(BUILD)/example
 	$(BUILD)/example
 
-rust-example:
+rust-example: $(ARCHIVE)
 	cd bindings/rust && ORDC_LIB_DIR=$(BUILD) cargo run --offline --quiet --example listing
 
-python-example:
-	PYTHONPATH=bindings/python ORDC_LIBRARY=$(BUILD)/libordc.so $(PYTHON) bindings/python/examples/price_folder.py bindings/python/examples/listing.curves bindings/python/examples/snapshots
+python-example: $(SHARED)
+	PYTHONPATH=bindings/python ORDC_LIBRARY=$(SHARED) $(PYTHON) bindings/python/examples/price_folder.py bindings/python/examples/listing.curves bindings/python/examples/snapshots
 
 # the tests of the bindings
-tests:
+tests: lib
 	cd bindings/rust && ORDC_LIB_DIR=$(BUILD) cargo test --offline --quiet
-	PYTHONPATH=bindings/python ORDC_LIBRARY=$(BUILD)/libordc.so $(PYTHON) -m unittest discover -s bindings/python/tests
+	PYTHONPATH=bindings/python ORDC_LIBRARY=$(SHARED) $(PYTHON) -m unittest discover -s bindings/python/tests
 
-damaged:
-	$(CC) $(WARNINGS) -g $(CFLAGS) -Iinclude bindings/c/damaged.c $(BUILD)/libordc.a -o $(BUILD)/damaged
+damaged: $(BUILD)/example $(BUILD)/damaged
 	valgrind --quiet --error-exitcode=9 --leak-check=full $(BUILD)/example
 	valgrind --quiet --error-exitcode=9 --leak-check=full $(BUILD)/damaged
 
-programs:
-	rt check curves price
-	cd reference && cargo build --offline --release --quiet --target-dir target
-	$(PYTHON) tests/programs.py target/bin reference/target/release/reference
+stack: $(BUILD)/stack
+	$(BUILD)/stack
 
-bench:
+reference:
+	cd reference && cargo build --offline --release --quiet --target-dir $(COMPILED)
+
+both-programs:
+	@mkdir -p target
+	rt check curves price > target/both-programs.log || { cat target/both-programs.log; exit 1; }
+
+programs: reference both-programs
+	$(PYTHON) tests/programs.py target/bin $(REFERENCE)
+
+wrong-mains: reference both-programs
+	$(PYTHON) tests/wrong_mains.py $(CURDIR) $(REFERENCE)
+
+bench: $(ARCHIVE)
 	cd bench && ORDC_LIB_DIR=$(BUILD) cargo run --offline --release --quiet
