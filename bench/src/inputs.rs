@@ -1,18 +1,11 @@
-//! The same input at each run: snapshots, hours and curves from a fixed sequence of numbers.
+//! The same inputs at each run: snapshots and hours from a seed.
 
+use random::Random;
 use std::fmt::Write;
 
-/// A fixed sequence of numbers that look random (a linear congruential generator).
-struct Sequence(u64);
-
-impl Sequence {
-    fn below(&mut self, bound: u64) -> u64 {
-        self.0 = self
-            .0
-            .wrapping_mul(6_364_136_223_846_793_005)
-            .wrapping_add(1_442_695_040_888_963_407);
-        (self.0 >> 33) % bound
-    }
+/// A number of 0 or more, below a bound.
+fn below(random: &mut Random, bound: u64) -> u64 {
+    random.bits() % bound
 }
 
 /// Mean 0 and spread 1000000 kW in every group.
@@ -47,58 +40,72 @@ fn suffix(index: u64, length: u32) -> String {
 }
 
 /// The id of a resource by its index.
-fn id(ids: Ids, index: u64, count: u64, numbers: &mut Sequence) -> String {
+fn id(ids: Ids, index: u64, count: u64, random: &mut Random) -> String {
     match ids {
         Ids::Numbered => format!("UNIT_{index}_A"),
         Ids::Random => (0..16)
-            .map(|_| char::from(ID_BYTES[numbers.below(37) as usize]))
+            .map(|_| char::from(*random.pick(ID_BYTES)))
             .collect(),
         Ids::Prefixed if count <= 37 * 37 => format!("RESOURCE_NODE_{}", suffix(index, 2)),
         Ids::Prefixed => format!("RESOURCE_NODE{}", suffix(index, 3)),
     }
 }
 
-/// A snapshot of so many resources: of ten, seven generators of every kind, one clr and two nclr.
-pub fn snapshot(count: u64, ids: Ids) -> Vec<u8> {
-    let kinds = ["gen", "wind", "irr", "nuke"];
-    let statuses = [
-        "ON", "ON", "ON", "OFF", "OFFNS", "ONTEST", "STARTUP", "SHUTDOWN", "OUT",
-    ];
-    let mut numbers = Sequence(count);
+/// The most that one resource adds, where so many in a thousand add that many kW together, each half of it on average.
+fn most(kilowatts: u64, in_a_thousand: u64, count: u64) -> u64 {
+    2 * kilowatts * 1000 / (in_a_thousand * count)
+}
+
+const KINDS: [&str; 4] = ["gen", "wind", "irr", "nuke"];
+const STATUSES: [&str; 9] = [
+    "ON", "ON", "ON", "OFF", "OFFNS", "ONTEST", "STARTUP", "SHUTDOWN", "OUT",
+];
+
+/// One of many snapshots of so many resources: of ten, about seven generators of every kind and status, one clr and two
+/// nclr. The reserves are a few GW, above X and so near to it that both probabilities lie between 0 and 1.
+pub fn snapshot(count: u64, ids: Ids, number: u64) -> Vec<u8> {
+    let mut random = Random::at(count, number);
+    // What one resource adds at most to G, C, L and D.
+    let on_line = most(2_200_000, 155, count);
+    let controllable = most(400_000, 100, count);
+    let loads = most(600_000, 200, count);
+    let off_line = most(1_000_000, 97, count);
     let mut text = format!("month=7\nhour=14\nlambda=2500\nfactor=9500\nprc=3000000\neea1=2300000\nshort=0\ncount={count}\n");
     for index in 0..count {
-        let id = id(ids, index, count, &mut numbers);
-        write!(text, "id={id}\n").expect("a String takes every byte");
-        let mut power = || numbers.below(900);
-        match index % 10 {
+        let id = id(ids, index, count, &mut random);
+        writeln!(text, "id={id}").expect("a String takes every byte");
+        let mut below = |bound| below(&mut random, bound);
+        let lpc = below(50_000);
+        match below(10) {
             7 => write!(
                 text,
-                "kind=clr\nbase={}\nlpc={}\nnonspin={}\nregup={}\n",
-                power(),
-                power(),
-                power(),
-                power()
+                "kind=clr\nbase={}\nlpc={lpc}\nnonspin={}\nregup={}\n",
+                lpc + below(controllable),
+                below(50),
+                below(50)
             ),
             8 | 9 => write!(
                 text,
-                "kind=nclr\nrrsok={}\nnet={}\nlpc={}\nrrs={}\n",
-                index % 2,
-                power(),
-                power(),
-                power()
+                "kind=nclr\nrrsok={}\nnet={}\nlpc={lpc}\nrrs={}\n",
+                below(2),
+                lpc + below(2 * loads),
+                below(loads)
             ),
-            _ => write!(
-                text,
-                "kind={}\nstatus={}\nnet={}\nlsl={}\nhsl={}\nbase={}\nnonspin={}\ncold30={}\n",
-                kinds[index as usize % 4],
-                statuses[index as usize % 9],
-                power() + 500,
-                power(),
-                power() + 1000,
-                power(),
-                power() % 50,
-                index % 2
-            ),
+            _ => {
+                let (kind, status) = (KINDS[below(4) as usize], STATUSES[below(9) as usize]);
+                let hsl = match status {
+                    "OFF" | "OFFNS" => below(off_line),
+                    _ => on_line + below(400_000),
+                };
+                let base = hsl - below(on_line).min(hsl);
+                write!(
+                    text,
+                    "kind={kind}\nstatus={status}\nnet={base}\nlsl={}\nhsl={hsl}\nbase={base}\nnonspin={}\ncold30={}\n",
+                    base / (1 + below(5)),
+                    below(50),
+                    below(2)
+                )
+            }
         }
         .expect("a String takes every byte");
     }
@@ -107,10 +114,10 @@ pub fn snapshot(count: u64, ids: Ids) -> Vec<u8> {
 
 /// So many hours, spread evenly over the groups, each of twelve runs.
 pub fn hours(count: u64) -> Vec<Vec<u8>> {
-    let mut numbers = Sequence(count);
+    let mut random = Random::new(count);
     (0..count)
         .map(|index| {
-            let mut power = |most: u64| numbers.below(most);
+            let mut power = |most: u64| below(&mut random, most);
             let (group, day) = (index % 24, index / 24);
             let (month, hour) = (3 * (group / 6) + 1, 4 * (group % 6) + day % 4);
             let mut text = format!(
