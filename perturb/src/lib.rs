@@ -61,29 +61,29 @@ pub struct Study {
 
 /// An input that is refused before anything is changed.
 #[derive(Clone, Copy, Debug, PartialEq, Eq)]
-pub struct Turned {
+pub struct RefusedText {
     pub text: &'static str,
     pub refusal: Refusal,
 }
 
 /// Reads the curve text, naming the text where it is refused.
-pub fn curves_of(text: &[u8]) -> Result<CurveSet, Turned> {
-    read_curves(text).map_err(|refusal| Turned {
+pub fn curves_of(text: &[u8]) -> Result<CurveSet, RefusedText> {
+    read_curves(text).map_err(|refusal| RefusedText {
         text: "curves",
         refusal,
     })
 }
 
 /// Reads the snapshot, naming the text where it is refused.
-pub fn snapshot_of(text: &[u8]) -> Result<Snapshot<'_>, Turned> {
-    read_snapshot(text).map_err(|refusal| Turned {
+pub fn snapshot_of(text: &[u8]) -> Result<Snapshot<'_>, RefusedText> {
+    read_snapshot(text).map_err(|refusal| RefusedText {
         text: "snapshot",
         refusal,
     })
 }
 
 /// Changes every reading of the snapshot in every way.
-pub fn study(curves: &CurveSet, text: &[u8]) -> Result<Study, Turned> {
+pub fn study(curves: &CurveSet, text: &[u8]) -> Result<Study, RefusedText> {
     let snapshot = snapshot_of(text)?;
     let before = price_values(curves, &snapshot);
     let readings = readings(text, &snapshot);

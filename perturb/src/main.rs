@@ -1,6 +1,6 @@
 //! `perturb CURVES SNAPSHOT [--tight] [--csv]`
 
-use perturb::{csv, curves_of, plain, study, tighten, Turned};
+use perturb::{csv, curves_of, plain, study, tighten, RefusedText};
 use std::io::{self, Write};
 use std::process::ExitCode;
 
@@ -47,8 +47,8 @@ fn run(curves: &str, snapshot: &str, tight: bool, as_csv: bool) -> Result<String
     Ok(report(&tight, Some((&variant, &given))))
 }
 
-fn refused(turned: Turned) -> String {
-    let Turned { text, refusal } = turned;
+fn refused(refused_text: RefusedText) -> String {
+    let RefusedText { text, refusal } = refused_text;
     let (number, line) = (refusal.number, refusal.line);
     format!("the {text} text is refused as it stands: refused {number} at line {line}")
 }

@@ -6,7 +6,7 @@
 //! most one sigma, and RS stands one kW above X, where each kW less counts.
 
 use crate::reading::{readings, text_of, Reading};
-use crate::{snapshot_of, Turned};
+use crate::{snapshot_of, RefusedText};
 use reference::{
     group_of, pi_s, read_snapshot, reserves, sums, CurveSet, Reserves, Snapshot, Sums, Unit,
     BILLION,
@@ -35,7 +35,7 @@ pub struct Tightened {
 }
 
 /// Makes the tight variant of a snapshot.
-pub fn tighten(curves: &CurveSet, text: &[u8]) -> Result<Tightened, Turned> {
+pub fn tighten(curves: &CurveSet, text: &[u8]) -> Result<Tightened, RefusedText> {
     let snapshot = snapshot_of(text)?;
     let mut work = Work {
         curves,

@@ -2,7 +2,7 @@
 
 use std::ops::RangeInclusive;
 
-/// Why an input was turned back: the rule's number, and the line (or group)
+/// Why an input was refused: the rule's number, and the line (or group)
 /// it concerns, 0 where none does.
 #[derive(Clone, Copy, Debug, PartialEq, Eq)]
 pub struct Refusal {

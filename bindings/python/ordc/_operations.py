@@ -1,4 +1,4 @@
-"""The five operations. Each raises Refused where it turns its input back."""
+"""The five operations. Each raises Refused where it refuses its input."""
 
 import ctypes
 

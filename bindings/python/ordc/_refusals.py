@@ -21,7 +21,7 @@ _OF_A_GROUP = (12, 13)
 
 
 class Refused(Exception):
-    """An operation turned its input back, and changed nothing.
+    """An operation refused its input, and changed nothing.
 
     Attributes:
         number: the refusal's number, 1 to 14.

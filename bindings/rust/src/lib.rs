@@ -2,7 +2,7 @@
 //!
 //! Hours are booked on a [`Record`], a record settles into a [`CurveSet`], and a curve set prices a
 //! snapshot's text into [`Prices`]. Power is in whole kW, money in whole cents per MWh, shares of one
-//! in billionths. What an operation turns back is a [`Refusal`], and then nothing has changed.
+//! in billionths. What an operation refuses is a [`Refusal`], and then nothing has changed.
 //!
 //! ```
 //! let curves = ordc::CurveSet {

@@ -1,4 +1,4 @@
-//! What an operation turned back, and why.
+//! What an operation refused, and why.
 
 use std::error::Error;
 use std::fmt;

@@ -1,3 +1,7 @@
--- Laws that crates above cite; the proofs of the named statements of specs/Promises.antt.
-pub mod CurveText
+-- The proofs of the named statements of specs/Promises.antt.
+pub mod FirstRefusal
 pub mod CurveRoundTrip
+pub mod Booked
+pub mod Shift
+pub mod Promises
+pub mod Numbered

@@ -1,3 +1,4 @@
--- Document 01, "History to curves": the text of a curve set and its promises.
-pub mod CurveText
+-- What is promised of curves.
+pub mod FirstRefusal
+pub mod Lists
 pub mod Promises

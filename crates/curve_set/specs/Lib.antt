@@ -1,3 +1,3 @@
--- Document 01, "History to curves": the curve set.
-pub mod Answer
+-- Document 01, "History to curves": the curve set, its ranges and its values; refused curves.
 pub mod Curves
+pub mod CurveValues

@@ -1,12 +1,29 @@
 // The curve set: VOLL, the minimum contingency level X, and the mean and the spread of each group; the range of each value.
-ghost use mathlib.Core.Path.{_≡_};
-ghost use Rattle.curve_set.specs.Answer.{refusal};
-ghost use Rattle.curve_set.specs.Curves.{pairInRange, pairsInRange, curvesInRange, refusedCurves};
-use crate::answer::Answer;
-use range::is_within;
-use text::refusal::Refusal;
+pub mod values;
 
-pub mod answer;
+ghost use mathlib.Core.Path.{_≡_};
+ghost use Rattle.text_refusal.specs.Answer.{refusal};
+ghost use Rattle.curve_set.specs.Curves.{vollInRange, floorInRange, pairInRange, pairsInRange, curvesInRange, refusedCurves};
+use integer::range::is_within;
+use text_refusal::answer::Answer;
+use text_refusal::refusal::Refusal;
+
+// The least and the greatest VOLL, X, mean and spread.
+pub const LEAST_VOLL: i64 = 0;
+
+pub const GREATEST_VOLL: i64 = 2000000;
+
+pub const LEAST_FLOOR: i64 = 0;
+
+pub const GREATEST_FLOOR: i64 = 20000000;
+
+pub const LEAST_MEAN: i64 = -20000000;
+
+pub const GREATEST_MEAN: i64 = 20000000;
+
+pub const LEAST_SPREAD: i64 = 1;
+
+pub const GREATEST_SPREAD: i64 = 20000000;
 
 // The mean and the spread of a group's reserve errors, in kW.
 pub struct Pair {
@@ -42,12 +59,26 @@ pub fn refused_curves(number: u64, line: usize) -> Curves
     }
 }
 
+// Whether VOLL is in its range.
+pub fn voll_in_range(voll: i64) -> bool
+    ensures { λ r. ⌜ r ≡ vollInRange voll ⌝ }
+{
+    is_within(voll, LEAST_VOLL, GREATEST_VOLL)
+}
+
+// Whether the minimum contingency level X is in its range.
+pub fn floor_in_range(floor: i64) -> bool
+    ensures { λ r. ⌜ r ≡ floorInRange floor ⌝ }
+{
+    is_within(floor, LEAST_FLOOR, GREATEST_FLOOR)
+}
+
 // Whether the mean and the spread of a group are in their ranges.
 fn pair_in_range(pair: Pair) -> bool
     ensures { λ r. ⌜ r ≡ pairInRange pair ⌝ }
 {
-    let mean = is_within(pair.mean, -20000000, 20000000);
-    let spread = is_within(pair.spread, 1, 20000000);
+    let mean = is_within(pair.mean, LEAST_MEAN, GREATEST_MEAN);
+    let spread = is_within(pair.spread, LEAST_SPREAD, GREATEST_SPREAD);
     mean & spread
 }
 
@@ -70,8 +101,8 @@ fn pairs_in_range(curves: CurveSet) -> bool
 pub fn curves_in_range(curves: CurveSet) -> bool
     ensures { λ r. ⌜ r ≡ curvesInRange curves ⌝ }
 {
-    let voll = is_within(curves.voll, 0, 2000000);
-    let floor = is_within(curves.floor, 0, 20000000);
+    let voll = voll_in_range(curves.voll);
+    let floor = floor_in_range(curves.floor);
     let pairs = pairs_in_range(curves);
     voll & (floor & pairs)
 }

@@ -2,12 +2,12 @@
 use libc::STDERR_FILENO;
 use libc::STDIN_FILENO;
 use libc::STDOUT_FILENO;
-use piece::part;
-use stream::Stream;
-use stream::is_refused;
-use stream::start;
-use stream_input::feed;
-use stream_output::finish;
+use program_curves::Stream;
+use program_curves::input::feed;
+use program_curves::is_refused;
+use program_curves::output::finish;
+use program_curves::start;
+use text_line::piece::part;
 
 // No input has more reads than this, so that the program ends.
 const MOST_READS: u64 = 1099511627776;

@@ -2,12 +2,14 @@
 -- `omega (arith, abs-fits, abs-sub a b, abs-mul a c)`.
 use mathlib.Core.Path.{_≡_, refl}
 use mathlib.Core.Logic.{_↔_}
+use mathlib.Core.Bool.{Bool, true, false, cond}
 use Prim.Native.Nat.{ℕ, suc, _+_, _*_, _^_, _≤_, _<_}
 use native.Mathlib.Omega.{arith}
 use lib.IntN.{ℤ, pos, negsuc, negℤ, natAbs, _+ℤ_, _-ℤ_, _*ℤ_}
-use lib.Signed.{_≤ℤ_}
+use lib.Signed.{leZ, _≤ℤ_}
 use mir.Syntax.{Width, w64}
 use mir.Val.{SFits, hbits}
+use Rattle.integer.specs.Order.{minℤ, maxℤ}
 use Rattle.integer.proofs.Difference.{view, toℕ}
 
 pub abs-neg : (x : ℤ) → natAbs (negℤ x) ≡ natAbs x
@@ -27,6 +29,19 @@ abs-mul (negsuc m) (negsuc n) = refl
 
 pub abs-bound : (z : ℤ) (b : ℕ) → (natAbs z ≤ b) ↔ ((negℤ (pos b) ≤ℤ z) × (z ≤ℤ pos b))
 abs-bound z b = rw (view z) (simp toℕ (omega arith))
+
+-- the lower and the higher of two
+one-of : (b : Bool) (x y : ℤ) → natAbs (cond b x y) ≤ natAbs x + natAbs y
+one-of true x y = omega arith
+one-of false x y = omega arith
+
+pub abs-min : (x y : ℤ) → natAbs (minℤ x y) ≤ natAbs x + natAbs y
+unfolding minℤ
+abs-min x y = one-of (leZ x y) x y
+
+pub abs-max : (x y : ℤ) → natAbs (maxℤ x y) ≤ natAbs x + natAbs y
+unfolding maxℤ
+abs-max x y = omega (arith, one-of (leZ x y) y x)
 
 pub nonneg-is : {z : ℤ} → pos 0 ≤ℤ z → z ≡ pos (natAbs z)
 nonneg-is {z} = rw (view z) (simp toℕ (omega arith))

@@ -23,13 +23,13 @@ unfoldable pub dif : ℕ → ℕ → ℤ
 dif a b = subℕ a b
 
 -- the two naturals by which an integer is seen
-unfoldable pub plus : ℤ → ℕ
-plus (pos n) = n
-plus (negsuc n) = 0
+unfoldable pub positivePart : ℤ → ℕ
+positivePart (pos n) = n
+positivePart (negsuc n) = 0
 
-unfoldable pub minus : ℤ → ℕ
-minus (pos n) = 0
-minus (negsuc n) = suc n
+unfoldable pub negativePart : ℤ → ℕ
+negativePart (pos n) = 0
+negativePart (negsuc n) = suc n
 
 dif-pos : (b p : ℕ) → dif (b + p) b ≡ pos p
 unfolding dif
@@ -65,8 +65,8 @@ pos-dif n = sym (dif-pos 0 n) ∙ dif-eq (0 + n) 0 n 0 (omega arith)
 pub negsuc-dif : (n : ℕ) → negsuc n ≡ dif 0 (suc n)
 negsuc-dif n = sym (dif-neg 0 n) ∙ dif-eq 0 (0 + suc n) 0 (suc n) (omega arith)
 
-pub view : (z : ℤ) → z ≡ dif (plus z) (minus z)
-unfolding plus minus
+pub view : (z : ℤ) → z ≡ dif (positivePart z) (negativePart z)
+unfolding positivePart negativePart
 view (pos n) = pos-dif n
 view (negsuc n) = negsuc-dif n
 
@@ -196,60 +196,60 @@ binomial x y = rw (view x, view y) (simp toℕ (omega arith))
 in-range : (x y : ℤ) → SFits w64 x → natAbs y ≤ 5 → x <ℤ y → SFits w64 (x +ℤ pos 1)
 in-range x y = rw (view x, view y) (simp toℕ (omega arith))
 
--- ---- the second way: facts for `omega` in place, over `plus` and `minus`. Rules for facts and goals are in the set `ints`;
+-- ---- the second way: facts for `omega` in place, over `positivePart` and `negativePart`. Rules for facts and goals are in the set `ints`;
 -- list one law for each operation that occurs: `omega (arith, ints, add-nat x y, pos-nat 1)`.
 
-pub add-nat : (x y : ℤ) → plus (x +ℤ y) + minus x + minus y ≡ plus x + plus y + minus (x +ℤ y)
-add-nat x y = omega (arith, eq-dif _ _ _ _ .0 (sym (view (x +ℤ y)) ∙ ap₂ _+ℤ_ (view x) (view y) ∙ add-dif (plus x) (minus x) (plus y) (minus y)))
+pub add-nat : (x y : ℤ) → positivePart (x +ℤ y) + negativePart x + negativePart y ≡ positivePart x + positivePart y + negativePart (x +ℤ y)
+add-nat x y = omega (arith, eq-dif _ _ _ _ .0 (sym (view (x +ℤ y)) ∙ ap₂ _+ℤ_ (view x) (view y) ∙ add-dif (positivePart x) (negativePart x) (positivePart y) (negativePart y)))
 
-pub neg-nat : (x : ℤ) → plus (negℤ x) + plus x ≡ minus x + minus (negℤ x)
-neg-nat x = omega (arith, eq-dif _ _ _ _ .0 (sym (view (negℤ x)) ∙ ap negℤ (view x) ∙ neg-dif (plus x) (minus x)))
+pub neg-nat : (x : ℤ) → positivePart (negℤ x) + positivePart x ≡ negativePart x + negativePart (negℤ x)
+neg-nat x = omega (arith, eq-dif _ _ _ _ .0 (sym (view (negℤ x)) ∙ ap negℤ (view x) ∙ neg-dif (positivePart x) (negativePart x)))
 
-pub sub-nat : (x y : ℤ) → plus (x -ℤ y) + minus x + plus y ≡ plus x + minus y + minus (x -ℤ y)
+pub sub-nat : (x y : ℤ) → positivePart (x -ℤ y) + negativePart x + positivePart y ≡ positivePart x + negativePart y + negativePart (x -ℤ y)
 sub-nat x y = omega (arith, add-nat x (negℤ y), neg-nat y)
 
-pub mul-nat : (x y : ℤ) → plus (x *ℤ y) + plus x * minus y + minus x * plus y ≡ plus x * plus y + minus x * minus y + minus (x *ℤ y)
-mul-nat x y = omega (arith, eq-dif _ _ _ _ .0 (sym (view (x *ℤ y)) ∙ ap₂ _*ℤ_ (view x) (view y) ∙ mul-dif (plus x) (minus x) (plus y) (minus y)))
+pub mul-nat : (x y : ℤ) → positivePart (x *ℤ y) + positivePart x * negativePart y + negativePart x * positivePart y ≡ positivePart x * positivePart y + negativePart x * negativePart y + negativePart (x *ℤ y)
+mul-nat x y = omega (arith, eq-dif _ _ _ _ .0 (sym (view (x *ℤ y)) ∙ ap₂ _*ℤ_ (view x) (view y) ∙ mul-dif (positivePart x) (negativePart x) (positivePart y) (negativePart y)))
 
-pub pos-nat : (n : ℕ) → (plus (pos n) ≡ n) × (minus (pos n) ≡ 0)
-unfolding plus minus
+pub pos-nat : (n : ℕ) → (positivePart (pos n) ≡ n) × (negativePart (pos n) ≡ 0)
+unfolding positivePart negativePart
 pos-nat n = (refl, refl)
 
-pub negsuc-nat : (n : ℕ) → (plus (negsuc n) ≡ 0) × (minus (negsuc n) ≡ suc n)
-unfolding plus minus
+pub negsuc-nat : (n : ℕ) → (positivePart (negsuc n) ≡ 0) × (negativePart (negsuc n) ≡ suc n)
+unfolding positivePart negativePart
 negsuc-nat n = (refl, refl)
 
-pub natAbs-nat : (x : ℤ) → natAbs x ≡ plus x + minus x
-unfolding plus minus
+pub natAbs-nat : (x : ℤ) → natAbs x ≡ positivePart x + negativePart x
+unfolding positivePart negativePart
 natAbs-nat (pos n) = omega arith
 natAbs-nat (negsuc n) = omega arith
 
-pub le-nat : {x y : ℤ} → x ≤ℤ y → plus x + minus y ≤ plus y + minus x
-le-nat {x} {y} h = le-dif (plus x) (minus x) (plus y) (minus y) .0 (rw (view x, view y) at h)
+pub le-nat : {x y : ℤ} → x ≤ℤ y → positivePart x + negativePart y ≤ positivePart y + negativePart x
+le-nat {x} {y} h = le-dif (positivePart x) (negativePart x) (positivePart y) (negativePart y) .0 (rw (view x, view y) at h)
 
-pub nat-le : {x y : ℤ} → plus x + minus y ≤ plus y + minus x → x ≤ℤ y
-nat-le {x} {y} h = rw (view x, view y) (le-dif (plus x) (minus x) (plus y) (minus y) .1 h)
+pub nat-le : {x y : ℤ} → positivePart x + negativePart y ≤ positivePart y + negativePart x → x ≤ℤ y
+nat-le {x} {y} h = rw (view x, view y) (le-dif (positivePart x) (negativePart x) (positivePart y) (negativePart y) .1 h)
 
-pub lt-nat : {x y : ℤ} → x <ℤ y → plus x + minus y < plus y + minus x
-lt-nat {x} {y} h = lt-dif (plus x) (minus x) (plus y) (minus y) .0 (rw (view x, view y) at h)
+pub lt-nat : {x y : ℤ} → x <ℤ y → positivePart x + negativePart y < positivePart y + negativePart x
+lt-nat {x} {y} h = lt-dif (positivePart x) (negativePart x) (positivePart y) (negativePart y) .0 (rw (view x, view y) at h)
 
-pub nat-lt : {x y : ℤ} → plus x + minus y < plus y + minus x → x <ℤ y
-nat-lt {x} {y} h = rw (view x, view y) (lt-dif (plus x) (minus x) (plus y) (minus y) .1 h)
+pub nat-lt : {x y : ℤ} → positivePart x + negativePart y < positivePart y + negativePart x → x <ℤ y
+nat-lt {x} {y} h = rw (view x, view y) (lt-dif (positivePart x) (negativePart x) (positivePart y) (negativePart y) .1 h)
 
-pub eq-nat : {x y : ℤ} → x ≡ y → plus x + minus y ≡ plus y + minus x
-eq-nat {x} {y} h = eq-dif (plus x) (minus x) (plus y) (minus y) .0 (rw (view x, view y) at h)
+pub eq-nat : {x y : ℤ} → x ≡ y → positivePart x + negativePart y ≡ positivePart y + negativePart x
+eq-nat {x} {y} h = eq-dif (positivePart x) (negativePart x) (positivePart y) (negativePart y) .0 (rw (view x, view y) at h)
 
-pub nat-eq : {x y : ℤ} → plus x + minus y ≡ plus y + minus x → x ≡ y
-nat-eq {x} {y} h = rw (view x, view y) (eq-dif (plus x) (minus x) (plus y) (minus y) .1 h)
+pub nat-eq : {x y : ℤ} → positivePart x + negativePart y ≡ positivePart y + negativePart x → x ≡ y
+nat-eq {x} {y} h = rw (view x, view y) (eq-dif (positivePart x) (negativePart x) (positivePart y) (negativePart y) .1 h)
 
-pub fits-below : {w : Width} {x : ℤ} → SFits w x → plus x < minus x + 2 ^ hbits w
-fits-below {w} {x} h = fits-dif w (plus x) (minus x) .0 (rw (view x) at h) .0
+pub fits-below : {w : Width} {x : ℤ} → SFits w x → positivePart x < negativePart x + 2 ^ hbits w
+fits-below {w} {x} h = fits-dif w (positivePart x) (negativePart x) .0 (rw (view x) at h) .0
 
-pub fits-above : {w : Width} {x : ℤ} → SFits w x → minus x ≤ plus x + 2 ^ hbits w
-fits-above {w} {x} h = fits-dif w (plus x) (minus x) .0 (rw (view x) at h) .1
+pub fits-above : {w : Width} {x : ℤ} → SFits w x → negativePart x ≤ positivePart x + 2 ^ hbits w
+fits-above {w} {x} h = fits-dif w (positivePart x) (negativePart x) .0 (rw (view x) at h) .1
 
-pub nat-fits : {w : Width} {x : ℤ} → (plus x - minus x) + (minus x - suc (plus x)) < 2 ^ hbits w → SFits w x
-nat-fits {w} {x} h = rw (view x) (fits-dif w (plus x) (minus x) .1 (omega arith))
+pub nat-fits : {w : Width} {x : ℤ} → (positivePart x - negativePart x) + (negativePart x - suc (positivePart x)) < 2 ^ hbits w → SFits w x
+nat-fits {w} {x} h = rw (view x) (fits-dif w (positivePart x) (negativePart x) .1 (omega arith))
 
 pub ruleset ints = (le-nat, nat-le, lt-nat, nat-lt, eq-nat, nat-eq, fits-below, fits-above, nat-fits)
 

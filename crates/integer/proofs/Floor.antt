@@ -98,6 +98,12 @@ unfolding floorDiv
 floor-nonneg (pos a) n h = simp toℕ (omega arith)
 floor-nonneg (negsuc a) n h = absurd (h .le)
 
+-- of a number that is not negative it is the quotient of its magnitude
+pub floor-magnitude : (a : ℤ) (n : ℕ) → pos 0 ≤ℤ a → natAbs (floorDiv a n) ≡ natAbs a / n
+unfolding floorDiv
+floor-magnitude (pos a) n h = refl
+floor-magnitude (negsuc a) n h = absurd (h .le)
+
 -- −7 by 2 is −4
 example : floorDiv (negsuc 6) 2 ≡ negsuc 3
 unfolding floorDiv

@@ -2,4 +2,6 @@ pub mod Bounds
 pub mod Difference
 pub mod Floor
 pub mod Order
+pub mod Quadratic
+pub mod Ranges
 pub mod Signed

@@ -1,7 +1,7 @@
 -- The order of ℤ, its ring laws and its tests. `≤ℤ-refl`, `<ℤ-≤ℤ-trans`, `clashℤ` are in lib.Signed, `+ℤ-assoc`, `+ℤ-comm`, `*ℤ-comm` in lib.IntN.
 use mathlib.Core.Path.{_≡_, refl, sym}
 use mathlib.Core.Logic.{_↔_, _⊎_, inl, inr}
-use mathlib.Core.Bool.{Bool, true, false, not}
+use mathlib.Core.Bool.{Bool, true, false, not, and-eq-true-iff}
 use Prim.Native.Nat.{ℕ, suc, _+_, _*_, _≤_, _<_}
 use native.Mathlib.Omega.{arith}
 use borrow.Author.Tests.{ltb-true, ltb-false, leb-true, leb-false, lt-ltb, le-ltb, le-leb, lt-leb}
@@ -9,33 +9,33 @@ use lib.Dec.{T}
 use lib.IntN.{ℤ, pos, negsuc, negℤ, _+ℤ_, _-ℤ_, _*ℤ_}
 use lib.Signed.{leZ, ltZ, _≤ℤ_, _<ℤ_, clashℤ}
 use Rattle.integer.specs.Order.{minℤ, maxℤ}
-use Rattle.integer.proofs.Difference.{plus, minus, view, toℕ}
+use Rattle.integer.proofs.Difference.{positivePart, negativePart, view, toℕ}
 
 -- ---- tests to facts and back
 
 pub leZ-true : (x y : ℤ) → leZ x y ≡ true → x ≤ℤ y
-leZ-true x y = rw (view x, view y) (simp toℕ (leb-true (plus x + minus y) (plus y + minus x)))
+leZ-true x y = rw (view x, view y) (simp toℕ (leb-true (positivePart x + negativePart y) (positivePart y + negativePart x)))
 
 pub leZ-false : (x y : ℤ) → leZ x y ≡ false → y <ℤ x
-leZ-false x y = rw (view x, view y) (simp toℕ (leb-false (plus x + minus y) (plus y + minus x)))
+leZ-false x y = rw (view x, view y) (simp toℕ (leb-false (positivePart x + negativePart y) (positivePart y + negativePart x)))
 
 pub ltZ-true : (x y : ℤ) → ltZ x y ≡ true → x <ℤ y
-ltZ-true x y = rw (view x, view y) (simp toℕ (ltb-true (plus x + minus y) (plus y + minus x)))
+ltZ-true x y = rw (view x, view y) (simp toℕ (ltb-true (positivePart x + negativePart y) (positivePart y + negativePart x)))
 
 pub ltZ-false : (x y : ℤ) → ltZ x y ≡ false → y ≤ℤ x
-ltZ-false x y = rw (view x, view y) (simp toℕ (ltb-false (plus x + minus y) (plus y + minus x)))
+ltZ-false x y = rw (view x, view y) (simp toℕ (ltb-false (positivePart x + negativePart y) (positivePart y + negativePart x)))
 
 pub le-leZ : {x y : ℤ} → x ≤ℤ y → leZ x y ≡ true
-le-leZ {x} {y} = rw (view x, view y) (simp toℕ (le-leb (plus x + minus y) (plus y + minus x)))
+le-leZ {x} {y} = rw (view x, view y) (simp toℕ (le-leb (positivePart x + negativePart y) (positivePart y + negativePart x)))
 
 pub lt-leZ : {x y : ℤ} → y <ℤ x → leZ x y ≡ false
-lt-leZ {x} {y} = rw (view x, view y) (simp toℕ (lt-leb (plus x + minus y) (plus y + minus x)))
+lt-leZ {x} {y} = rw (view x, view y) (simp toℕ (lt-leb (positivePart x + negativePart y) (positivePart y + negativePart x)))
 
 pub lt-ltZ : {x y : ℤ} → x <ℤ y → ltZ x y ≡ true
-lt-ltZ {x} {y} = rw (view x, view y) (simp toℕ (lt-ltb (plus x + minus y) (plus y + minus x)))
+lt-ltZ {x} {y} = rw (view x, view y) (simp toℕ (lt-ltb (positivePart x + negativePart y) (positivePart y + negativePart x)))
 
 pub le-ltZ : {x y : ℤ} → y ≤ℤ x → ltZ x y ≡ false
-le-ltZ {x} {y} = rw (view x, view y) (simp toℕ (le-ltb (plus x + minus y) (plus y + minus x)))
+le-ltZ {x} {y} = rw (view x, view y) (simp toℕ (le-ltb (positivePart x + negativePart y) (positivePart y + negativePart x)))
 
 pub leZ-no : {x y : ℤ} → T (not (leZ x y)) → y <ℤ x
 leZ-no {x} {y} t = go (leZ x y) refl t
@@ -158,6 +158,12 @@ pub *ℤ-cancel : (n : ℕ) (x y : ℤ) → 0 < n → pos n *ℤ x ≡ pos n *�
 
 -- ---- the lower and the higher of two
 
+pub minℤ-first : {x y : ℤ} → x ≤ℤ y → minℤ x y ≡ x
+minℤ-first {x} {y} = rw (view x, view y) (simp toℕ (omega arith))
+
+pub minℤ-second : {x y : ℤ} → y ≤ℤ x → minℤ x y ≡ y
+minℤ-second {x} {y} = rw (view x, view y) (simp toℕ (omega arith))
+
 pub minℤ-left : (x y : ℤ) → minℤ x y ≤ℤ x
 minℤ-left x y = rw (view x, view y) (simp toℕ (omega arith))
 
@@ -169,6 +175,12 @@ minℤ-greatest {x} {y} {z} = rw (view x, view y, view z) (simp toℕ (omega ari
 
 pub minℤ-mono : {x x′ y y′ : ℤ} → x ≤ℤ x′ → y ≤ℤ y′ → minℤ x y ≤ℤ minℤ x′ y′
 minℤ-mono {x} {x′} {y} {y′} = rw (view x, view x′, view y, view y′) (simp toℕ (omega arith))
+
+pub maxℤ-first : {x y : ℤ} → y ≤ℤ x → maxℤ x y ≡ x
+maxℤ-first {x} {y} = rw (view x, view y) (simp toℕ (omega arith))
+
+pub maxℤ-second : {x y : ℤ} → x ≤ℤ y → maxℤ x y ≡ y
+maxℤ-second {x} {y} = rw (view x, view y) (simp toℕ (omega arith))
 
 pub maxℤ-left : (x y : ℤ) → x ≤ℤ maxℤ x y
 maxℤ-left x y = rw (view x, view y) (simp toℕ (omega arith))

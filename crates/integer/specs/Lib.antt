@@ -1,2 +1,4 @@
 pub mod Floor
 pub mod Order
+pub mod Quadratic
+pub mod Range

@@ -5,6 +5,8 @@ ghost use lib.IntN.{pos, negsuc, natAbs};
 ghost use lib.Signed.{_<ℤ_};
 ghost use Rattle.integer.specs.Floor.{floorDiv};
 
+pub mod range;
+
 // How far a negative number is below -1: the least number has this in an unsigned one, and not its magnitude.
 fn complement(a: i64) -> u64
     requires { ⌜ a <ℤ pos 0 ⌝ }

@@ -4,15 +4,15 @@ use mathlib.Core.Bool.{true, false}
 use mathlib.Core.List.{[], _∷_}
 use lib.IntN.{pos, negsuc}
 use Rattle.integer.specs.Floor.{floorDiv}
-use Rattle.quadratic.specs.Quadratic.{quadratic}
+use Rattle.integer.specs.Quadratic.{quadratic}
 use Rattle.root.specs.Root.{rootOf, rootIn, raised}
-use Rattle.curve_set.specs.declared.answer.Answer.the-variants as answer
-use Rattle.record.specs.declared.Group.{Group}
-use Rattle.curve_set.specs.Answer.{refusal}
-use Rattle.record.specs.Record.{noHours, fresh, groupAt, withGroup}
-use Rattle.possible.specs.Possible.{meanOf, squaresAround, notNegative, possible}
-use Rattle.history.specs.Booking.{withError, bookError}
-use Rattle.settling.specs.Settle.{spreadOf, settledGroups}
+use Rattle.text_refusal.specs.declared.answer.Answer.the-variants as answer
+use Rattle.curve_record.specs.declared.Group.{Group}
+use Rattle.text_refusal.specs.Answer.{refusal}
+use Rattle.curve_record.specs.Record.{noHours, fresh, groupAt, withGroup}
+use Rattle.curve_record.specs.Possible.{meanOf, squaresAround, notNegative, possible}
+use Rattle.curve_booking.specs.Booking.{withError, bookError}
+use Rattle.curve_settling.specs.Settle.{spreadOf, settledGroups}
 
 -- the errors −1 and 2, and −1 and 0
 abbrev pub minus-one-two : Group
@@ -25,11 +25,11 @@ minus-one-none = withError (withError noHours (negsuc 0)) (pos 0)
 
 -- an hour is booked on its own group and on no fixed one
 pub booked-on-its-group : groupAt (bookError fresh 3 (pos 5) .history) 3 ≡ record { count = 1; sum = pos 5; squares = pos 25 }
-unfolding bookError withError
+unfolding bookError withError fresh groupAt withGroup
 booked-on-its-group = refl
 
 pub other-group-stays : groupAt (bookError fresh 3 (pos 5) .history) 0 ≡ noHours
-unfolding bookError withError
+unfolding bookError withError fresh groupAt withGroup
 other-group-stays = refl
 
 -- the second hour of a group is not booked as the first
@@ -39,11 +39,11 @@ second-hour-counts = refl
 
 -- a full group and a far error: 10 comes before 11
 pub full-group-first : bookError (withGroup fresh 0 (record { count = 1000; sum = pos 0; squares = pos 0 })) 0 (pos 20000001) .answer ≡ refusal 10 0
-unfolding bookError
+unfolding bookError fresh groupAt withGroup
 full-group-first = refl
 
 pub far-error : bookError fresh 0 (pos 20000001) .answer ≡ refusal 11 0
-unfolding bookError
+unfolding bookError fresh groupAt withGroup
 far-error = refl
 
 -- ---- the record

@@ -8,17 +8,18 @@ use Rattle.integer.specs.Floor.{floorDiv}
 use Rattle.integer.specs.Order.{minℤ, maxℤ}
 use Rattle.normal.specs.Knot.{knot}
 use Rattle.normal.specs.Normal.{interpolated, upper, normal}
-use Rattle.season.specs.Season.{groupOf, seasonOf, blockOf}
+use Rattle.curve_group.specs.Season.{groupOf, seasonOf, blockOf}
 use Rattle.curve_set.specs.Curves.{curvesInRange, pairsInRange}
-use Rattle.probability.specs.Probability.{onlineProbability, offlineProbability}
+use Rattle.curve_probability.specs.Probability.{onlineProbability, offlineProbability}
 use Rattle.curve_set.specs.declared.CurveSet.{CurveSet}
-use Rattle.adder.specs.Sums.{sumsPossible, headerFault}
-use Rattle.adder.specs.Reserve.{twiceLoads, twiceOnline, twiceAll, discounted, onlineReserve, totalReserve}
-use Rattle.adder.specs.Price.{valueOfReserve, rounded, shortageOnline, shortageOffline, pricesOf, sumsPriced}
-use Rattle.adder.specs.declared.sums.Sums.{Sums}
-use Rattle.adder.specs.declared.sums.Header.{Header}
-use Rattle.adder.specs.declared.price.Pricing.{Pricing}
-use Rattle.adder.specs.declared.price.Pricing.the-variants as pricing
+use Rattle.pricing_sums.specs.Header.{faultFrom, headerFault}
+use Rattle.pricing_sums.specs.Sums.{sumsPossible}
+use Rattle.pricing_adder.specs.Reserve.{twiceLoads, twiceOnline, twiceAll, discounted, onlineReserve, totalReserve}
+use Rattle.pricing_adder.specs.Price.{valueOfReserve, rounded, shortageOnline, shortageOffline, pricesOf, sumsPriced}
+use Rattle.pricing_sums.specs.declared.Sums.{Sums}
+use Rattle.pricing_sums.specs.declared.header.Header.{Header}
+use Rattle.pricing_adder.specs.declared.price.Pricing.{Pricing}
+use Rattle.pricing_adder.specs.declared.price.Pricing.the-variants as pricing
 
 abbrev curves : ℤ → CurveSet
 curves mean = record { voll = pos 900000; floor = pos 2000000; pairs = replicate 24 (record { mean = mean; spread = pos 1000000 }) }
@@ -54,7 +55,7 @@ pub listings :
     ∷ answer (pos 2707000) (pos 3000000) 158655254 158655254 0 0
     ∷ answer (pos 2707000) (pos 3000000) 158655254 158655254 0 0
     ∷ []
-unfolding sumsPriced curvesInRange pairsInRange sumsPossible headerFault pricesOf valueOfReserve rounded shortageOnline shortageOffline onlineProbability offlineProbability normal upper interpolated knot groupOf seasonOf blockOf onlineReserve totalReserve discounted twiceOnline twiceAll twiceLoads floorDiv minℤ maxℤ
+unfolding sumsPriced curvesInRange pairsInRange sumsPossible faultFrom headerFault pricesOf valueOfReserve rounded shortageOnline shortageOffline onlineProbability offlineProbability normal upper interpolated knot groupOf seasonOf blockOf onlineReserve totalReserve discounted twiceOnline twiceAll twiceLoads floorDiv minℤ maxℤ
 listings = refl
 
 -- two rounded prices added make 142394 of the listing's on-line price

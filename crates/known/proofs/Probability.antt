@@ -2,7 +2,7 @@
 use mathlib.Core.Path.{refl}
 use Rattle.normal.specs.Knot.{knot}
 use Rattle.normal.specs.Normal.{interpolated, upper, normal}
-use Rattle.probability.specs.Probability.{offlineProbability}
+use Rattle.curve_probability.specs.Probability.{offlineProbability}
 use Rattle.known.specs.Statement.{AllHold}
 use Rattle.known.specs.Probability.{tableValues}
 

@@ -12,51 +12,51 @@ use Rattle.integer.specs.Order.{minℤ, maxℤ}
 use Rattle.integer.proofs.Order.{pos-≤ℤ}
 use Rattle.normal.specs.Knot.{knot}
 use Rattle.normal.specs.Normal.{normal, upper, interpolated}
-use Rattle.quadratic.specs.Quadratic.{quadratic}
+use Rattle.integer.specs.Quadratic.{quadratic}
 use Rattle.root.specs.Root.{rootOf, rootIn, raised}
-use Rattle.text.specs.Choice.{pick}
-use Rattle.text.specs.Bytes.{bytes}
-use Rattle.line.specs.Line.{lineIn, lineLength, begins}
-use Rattle.number.specs.Number.{numberOf, allDigits, valueOf, writtenNumber, digitsWithin}
-use Rattle.line.specs.Field.{fieldAt}
-use Rattle.block.specs.Block.{writeFields, readFields}
-use Rattle.piece.specs.Piece.{piecesFrom}
-use Rattle.word.specs.Word.{isWord, wordAmong}
-use Rattle.id.specs.Id.{isId, allIdBytes}
-use Rattle.season.specs.Season.{seasonOf, blockOf, groupOf}
-use Rattle.block.specs.Block.{repeated}
-use Rattle.hour.specs.Hour.{HourAnswer, hourOf, read, hourFields, runFields, runsOf, hourIn, hourAhead, scedReserve, scedSum, errorOf}
-use Rattle.record.specs.Record.{fresh}
-use Rattle.possible.specs.Possible.{allPossible, possible, meanOf, squaresAround}
-use Rattle.history.specs.Booking.{kept, bookError, bookHour, withError, booked}
-use Rattle.settling.specs.Settle.{spreadOf, pairOf, settledGroups, settled}
-use Rattle.history.specs.Promises.{bookedAll, HourLowered, hour-lowered, both-accepted, ListsLowered}
-use Rattle.curve_set.specs.declared.answer.Answer.{Answer}
-use Rattle.curve_set.specs.declared.answer.Answer.the-variants as answer
-use Rattle.history.specs.declared.Booking.{Booking}
-use Rattle.record.specs.declared.Record.{Record}
+use mathlib.Core.Bool.{cond}
+use Rattle.text_refusal.specs.Bytes.{bytes}
+use Rattle.text_line.specs.Line.{lineIn, lineLength, begins}
+use Rattle.text_number.specs.Number.{numberOf, allDigits, valueOf, writtenNumber, digitsWithin}
+use Rattle.text_line.specs.Field.{fieldAt}
+use Rattle.text_schema.specs.Schema.{writeFields, readFields}
+use Rattle.text_word.specs.Word.{wordAmong, sameBytes}
+use Rattle.text_id.specs.Id.{isId, allIdBytes}
+use Rattle.curve_group.specs.Season.{seasonOf, blockOf, groupOf}
+use Rattle.text_schema.specs.Schema.{repeated}
+use Rattle.curve_hour.specs.Hour.{HourAnswer, hourOf, read, hourFields, runFields, runsOf, hourIn, hourAhead, scedReserve, scedSum, errorOf}
+use Rattle.curve_record.specs.Record.{fresh, groupAt, withGroup, groupsFrom}
+use Rattle.curve_record.specs.Possible.{recordPossible, allPossible, possible, meanOf, squaresAround}
+use Rattle.curve_booking.specs.Booking.{kept, bookError, bookHour, withError, booked}
+use Rattle.curve_settling.specs.Settle.{spreadOf, pairOf, settledGroups, settled}
+use Rattle.curve.specs.Lists.{bookedAll, HourLowered, hour-lowered, both-accepted, ListsLowered}
+use Rattle.text_refusal.specs.declared.answer.Answer.{Answer}
+use Rattle.text_refusal.specs.declared.answer.Answer.the-variants as answer
+use Rattle.curve_booking.specs.declared.Booking.{Booking}
+use Rattle.curve_record.specs.declared.Record.{Record}
 use Rattle.curve_set.specs.declared.CurveSet.{CurveSet}
 use Rattle.curve_set.specs.Curves.{curvesInRange, pairsInRange}
-use Rattle.probability.specs.Probability.{onlineProbability, offlineProbability}
-use Rattle.adder.specs.Sums.{plus}
-use Rattle.snapshot.specs.Snapshot.{headerFields, Entry, standsIn, sameBytes, resourcesAt, snapshotIn}
-use Rattle.adder.specs.Reserve.{twiceLoads, twiceOnline, twiceAll, discounted, onlineReserve, totalReserve}
-use Rattle.adder.specs.Price.{valueOfReserve, rounded, shortageOnline, shortageOffline, pricesOf}
-use Rattle.adder.specs.declared.price.Prices.{Prices}
-use Rattle.adder.specs.declared.price.Pricing.the-variants as pricing
-use Rattle.online_units.specs.Online.{countedOnline}
-use Rattle.sums.specs.Sums.{partOf, sumsOf}
+use Rattle.curve_probability.specs.Probability.{onlineProbability, offlineProbability}
+use Rattle.pricing_sums.specs.Sums.{plus}
+use Rattle.pricing_snapshot.specs.Snapshot.{headerFields, Entry, standsIn, resourcesAt, dueLines, snapshotIn}
+use Rattle.pricing_adder.specs.Reserve.{twiceLoads, twiceOnline, twiceAll, discounted, onlineReserve, totalReserve}
+use Rattle.pricing_adder.specs.Price.{valueOfReserve, rounded, shortageOnline, shortageOffline, pricesOf}
+use Rattle.pricing_adder.specs.declared.price.Prices.{Prices}
+use Rattle.pricing_adder.specs.declared.price.Pricing.the-variants as pricing
+use Rattle.pricing_resource.specs.Online.{countedOnline}
+use Rattle.pricing_resource.specs.Offline.{countedOffline}
+use Rattle.pricing_sums.specs.Part.{partOf, sumsOf}
 use Rattle.pricing.specs.Promises.{ResourceRaised, generator-raised, one-raised, none-raised, SnapshotRaised, snapshot-raised}
-use Rattle.adder.specs.declared.sums.Header.{Header}
-use Rattle.resource_text.specs.Resource.{generatorFields, controllableFields, loadFields, resourceAt}
+use Rattle.pricing_sums.specs.declared.header.Header.{Header}
+use Rattle.pricing_resource_text.specs.Resource.{generatorFields, controllableFields, loadFields, resourceAt}
 use Rattle.pricing.specs.Pricing.{priced}
-use Rattle.snapshot.specs.Snapshot as snapshot-in
+use Rattle.pricing_snapshot.specs.Snapshot as snapshot-in
 use Rattle.known.specs.Pricing.{listing}
-use Rattle.resource.specs.declared.Kind.{Kind}
-use Rattle.resource.specs.declared.Kind.the-variants as kind
-use Rattle.resource.specs.declared.Status.{Status}
-use Rattle.resource.specs.declared.Status.the-variants as status
-use Rattle.resource.specs.declared.Resource.the-variants as resource
+use Rattle.pricing_resource.specs.declared.Kind.{Kind}
+use Rattle.pricing_resource.specs.declared.Kind.the-variants as kind
+use Rattle.pricing_resource.specs.declared.Status.{Status}
+use Rattle.pricing_resource.specs.declared.Status.the-variants as status
+use Rattle.pricing_resource.specs.declared.Resource.the-variants as resource
 
 -- ---- the hours: HA is all of the error
 
@@ -96,7 +96,7 @@ Reads d all = map (λ p. hourIn (hourText d p)) all ≡ map (planned d) all
 
 -- booking a planned hour, which no text has to be read for
 abbrev book : ℕ → Record → Plan → Booking
-book d history p = pick (allPossible (history .groups)) (bookHour history (planned d p)) (kept history 1 0)
+book d history p = cond (recordPossible history) (bookHour history (planned d p)) (kept history 1 0)
 
 unfoldable bookAll : ℕ → Record → List Plan → Record
 bookAll d history [] = history
@@ -141,11 +141,11 @@ lowered d history history′ (p ∷ all) reads reads′ less accepted accepted�
 
 -- the hours are read as planned
 reads : Reads 0 (plans 24) × Reads 1000 (plans 24)
-unfolding plans hourText bytes lineIn lineLength begins numberOf allDigits valueOf writtenNumber digitsWithin writeFields readFields fieldAt hourFields runFields repeated runsOf hourIn
+unfolding plans hourText lineIn lineLength begins numberOf allDigits valueOf writtenNumber digitsWithin writeFields readFields fieldAt hourFields runFields repeated runsOf hourIn
 reads = (refl, refl)
 
 lists-lowered : ListsLowered 1000 fresh fresh (hours 0) (hours 1000)
-unfolding plans answers runsOf floorDiv quadratic seasonOf blockOf groupOf hourAhead scedReserve scedSum errorOf allPossible possible meanOf squaresAround bookError withError
+unfolding plans answers runsOf floorDiv quadratic seasonOf blockOf groupOf hourAhead scedReserve scedSum errorOf fresh groupAt withGroup groupsFrom recordPossible allPossible possible meanOf squaresAround bookError withError
 lists-lowered = lowered 1000 fresh fresh (plans 24) (reads .0) (reads .1) refl refl refl
 
 -- every mean falls by 1000, every spread is 1000000
@@ -156,7 +156,7 @@ abbrev SettledTo : Record → ℤ → Type 0
 SettledTo history mean = settled history (pos 900000) (pos 2000000) ≡ record { set = curves mean; answer = answer.Accepted }
 
 planned-settled : SettledTo (bookAll 0 fresh (plans 24)) (pos 0) × SettledTo (bookAll 1000 fresh (plans 24)) (negsuc 999)
-unfolding plans bookAll runsOf floorDiv quadratic seasonOf blockOf groupOf hourAhead scedReserve scedSum errorOf allPossible possible meanOf squaresAround bookError withError settled settledGroups spreadOf pairOf rootOf rootIn raised
+unfolding plans bookAll runsOf floorDiv quadratic seasonOf blockOf groupOf hourAhead scedReserve scedSum errorOf fresh groupAt withGroup groupsFrom recordPossible allPossible possible meanOf squaresAround bookError withError settled settledGroups spreadOf pairOf rootOf rootIn raised
 planned-settled = (refl, refl)
 
 both-settled : SettledTo (bookedAll fresh (hours 0)) (pos 0) × SettledTo (bookedAll fresh (hours 1000)) (negsuc 999)
@@ -209,7 +209,7 @@ units base hsl =
     ∷ []
 
 snapshots-read : (snapshotIn snapshot ≡ snapshot-in.read (header 3000000) (units 93000 293000)) × (snapshotIn raisedSnapshot ≡ snapshot-in.read (header 3100000) (units 90000 300000))
-unfolding snapshot raisedSnapshot unit bytes lineIn lineLength begins numberOf allDigits valueOf readFields fieldAt headerFields generatorFields controllableFields loadFields resourceAt resourcesAt snapshotIn standsIn sameBytes isId allIdBytes piecesFrom isWord wordAmong
+unfolding snapshot raisedSnapshot unit lineIn lineLength begins numberOf allDigits valueOf readFields fieldAt headerFields generatorFields controllableFields loadFields resourceAt resourcesAt dueLines snapshotIn standsIn sameBytes isId allIdBytes wordAmong
 snapshots-read = (refl, refl)
 
 snapshot-up : SnapshotRaised (snapshotIn snapshot) (snapshotIn raisedSnapshot)
@@ -247,7 +247,7 @@ second = record { rs = pos 2710000; rsns = pos 3010000; pis = 157463369; pins = 
 
 prices :
     (priced (curves (pos 0)) snapshot ≡ pricing.Priced first) × (priced (curves (negsuc 999)) raisedSnapshot ≡ pricing.Priced second)
-unfolding unit priced curvesInRange pairsInRange sumsOf partOf countedOnline plus pricesOf valueOfReserve rounded shortageOnline shortageOffline onlineProbability offlineProbability normal upper interpolated knot groupOf seasonOf blockOf onlineReserve totalReserve discounted twiceOnline twiceAll twiceLoads floorDiv minℤ maxℤ
+unfolding unit priced curvesInRange pairsInRange sumsOf partOf countedOnline countedOffline plus pricesOf valueOfReserve rounded shortageOnline shortageOffline onlineProbability offlineProbability normal upper interpolated knot groupOf seasonOf blockOf onlineReserve totalReserve discounted twiceOnline twiceAll twiceLoads floorDiv minℤ maxℤ
 prices = (rw (snapshots-read .0), rw (snapshots-read .1))
 
 -- two lists and two snapshots that meet all that demand 3 asks, with both prices of the second below the first's

@@ -3,15 +3,16 @@ use Prim.Native.Nat.{ℕ}
 use mathlib.Core.List.{List, [], _∷_, _++_}
 use lib.IntN.{ℤ, pos, negsuc}
 use lib.ListN.{replicate}
-use Rattle.text.specs.Bytes.{bytes}
+use Rattle.text_refusal.specs.Bytes.{bytes}
 use Rattle.curve_set.specs.declared.CurveSet.{CurveSet}
-use Rattle.adder.specs.declared.price.Pricing.{Pricing}
-use Rattle.adder.specs.declared.price.Pricing.the-variants as pricing
+use Rattle.pricing_adder.specs.Price.{priceValues}
+use Rattle.pricing_adder.specs.declared.price.Pricing.{Pricing}
+use Rattle.pricing_adder.specs.declared.price.Pricing.the-variants as pricing
 use Rattle.pricing.specs.Pricing.{priced}
 
 -- document 01's numbers for each case of a pricing: `rs rsns pis pins online offline`, or the refusal's number and its line
 abbrev pub printed : Pricing → List ℤ
-printed (pricing.Priced p) = p .rs ∷ p .rsns ∷ pos (p .pis) ∷ pos (p .pins) ∷ pos (p .online) ∷ pos (p .offline) ∷ []
+printed (pricing.Priced p) = priceValues p
 printed (pricing.Refused found) = pos (found .number) ∷ pos (found .line) ∷ []
 
 -- voll 900000, floor 2000000, all pairs 0 and 1000000

@@ -3,7 +3,7 @@ use Prim.Native.Nat.{ℕ}
 use mathlib.Core.List.{List, [], _∷_}
 use lib.IntN.{ℤ, pos, _+ℤ_}
 use Rattle.normal.specs.Knot.{knot}
-use Rattle.probability.specs.Probability.{offlineProbability}
+use Rattle.curve_probability.specs.Probability.{offlineProbability}
 
 abbrev pub single : ℕ → List ℤ
 single n = pos n ∷ []

@@ -2,13 +2,13 @@
 use mathlib.Core.List.{List, [], _∷_, _++_}
 use lib.IntN.{ℤ, pos, negℤ}
 use lib.ListN.{replicate}
-use Rattle.curve_values.specs.CurveValues.{pairValues}
+use Rattle.curve_set.specs.CurveValues.{pairValues}
 use Rattle.known.specs.Statement.{numberAndLine}
-use Rattle.record.specs.Record.{noHours}
-use Rattle.possible.specs.Possible.{meanOf}
-use Rattle.history.specs.Booking.{withError}
-use Rattle.settling.specs.Settle.{settled}
-use Rattle.record.specs.declared.Group.{Group}
+use Rattle.curve_record.specs.Record.{noHours}
+use Rattle.curve_record.specs.Possible.{meanOf}
+use Rattle.curve_booking.specs.Booking.{withError}
+use Rattle.curve_settling.specs.Settle.{settled}
+use Rattle.curve_record.specs.declared.Group.{Group}
 use Rattle.curve_set.specs.declared.Curves.{Curves}
 
 -- two errors, and the curves where each group has these two

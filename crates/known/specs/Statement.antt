@@ -2,8 +2,8 @@
 use mathlib.Core.Path.{_≡_}
 use mathlib.Core.List.{List, [], _∷_, map}
 use lib.IntN.{ℤ, pos}
-use Rattle.curve_set.specs.declared.answer.Answer.{Answer}
-use Rattle.curve_set.specs.declared.answer.Answer.the-variants as answer
+use Rattle.text_refusal.specs.declared.answer.Answer.{Answer}
+use Rattle.text_refusal.specs.declared.answer.Answer.the-variants as answer
 
 -- what is computed and what is expected, in pairs, are equal throughout
 abbrev pub AllHold : List (List ℤ × List ℤ) → Type 0

@@ -1,19 +1,10 @@
--- Known values of the table and of N, and that the rule's quotients are exact, by computation.
+-- Known values of the table and of N, by computation.
 -- Assumes nothing.
 use mathlib.Core.Path.{_≡_, refl}
 use mathlib.Core.List.{[], _∷_, map}
-use Prim.Native.Nat.{ℕ, zero, suc, _+_, _%_}
 use lib.IntN.{pos, negsuc}
-use Rattle.normal.specs.Knot.{common, denominator, knot}
+use Rattle.normal.specs.Knot.{knot}
 use Rattle.normal.specs.Normal.{interpolated, upper, normal}
-
--- what the first n denominators leave of the common one, together
-abbrev pub remainders : ℕ → ℕ
-remainders zero = 0
-remainders (suc n) = remainders n + common % denominator n
-
-pub common-exact : remainders 60 ≡ 0
-common-exact = refl
 
 pub known-knots :
     map knot (0 ∷ 1 ∷ 100 ∷ 196 ∷ 500 ∷ [])

@@ -12,6 +12,7 @@ use lib.IntN.{ℤ, pos, negsuc, natAbs}
 use lib.Signed.{_≤ℤ_, ltZ}
 use Rattle.normal.specs.Knot.{knot}
 use Rattle.normal.specs.Normal.{interpolated, upper, normal}
+use Rattle.normal.specs.Promises.{NormalNeverFalls}
 use Rattle.normal.proofs.Table.{knot-rises, knot-order, knot-range}
 
 div-order : {a b : ℕ} (d : ℕ) → zero < d → a ≤ b → a / d ≤ b / d
@@ -108,6 +109,12 @@ unfolding normal
 normal-above (pos n) d e = refl
 normal-above (negsuc n) d e = cc
 
+-- from a fraction of 500 on
+pub normal-full : (n : ℤ) (d : ℕ) → pos (500 * d) ≤ℤ n → normal n d ≡ 1000000000
+unfolding normal
+normal-full (pos n) d h = upper-above n d (leb→le (500 * d) n (h .le))
+normal-full (negsuc n) d h = absurd (h .le)
+
 pub normal-le : (n : ℤ) (d : ℕ) → normal n d ≤ 1000000000
 unfolding normal
 normal-le (pos n) d = upper-range n d .1
@@ -121,3 +128,6 @@ normal-order {n = negsuc n} {m = pos m} d l = omega (arith, upper-range (suc n) 
 normal-order {n = negsuc n} {m = negsuc m} d l =
     let further : upper (suc m) d ≤ upper (suc n) d = upper-order d (suc-le-suc (leb→le m n (l .le))) in
     omega arith
+
+pub normal-never-falls : NormalNeverFalls
+normal-never-falls n m d l = (normal-order d l, normal-le m d)

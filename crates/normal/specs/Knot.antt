@@ -1,6 +1,9 @@
 -- The normal table: its rule, as the document has it, in whole numbers over one common denominator.
 -- Assumes nothing.
-use Prim.Native.Nat.{ℕ, zero, suc, _+_, _-_, _*_, _/_, _^_}
+use mathlib.Core.Path.{_≡_}
+use mathlib.Core.List.{List}
+use Prim.Native.Nat.{ℕ, zero, suc, _+_, _-_, _*_, _/_, _^_, _≤_, _<_}
+use lib.ListN.{getD}
 
 abbrev pub factorial : ℕ → ℕ
 factorial zero = 1
@@ -14,7 +17,7 @@ denominator n = 100 ^ (2 * n + 1) * 2 ^ n * factorial n * (2 * n + 1)
 abbrev pub common : ℕ
 common = 100 ^ 119 * factorial 119
 
--- the term n of the series without its sign, times the common denominator: the quotient is exact
+-- the term n of the series without its sign, times the common denominator: the quotient is exact (`QuotientsAreExact`)
 abbrev pub term : ℕ → ℕ → ℕ
 term k n = k ^ (2 * n + 1) * (common / denominator n)
 
@@ -28,7 +31,7 @@ abbrev pub oddTerms : ℕ → ℕ → ℕ
 oddTerms k zero = 0
 oddTerms k (suc m) = oddTerms k m + term k (2 * m + 1)
 
--- A(k), times the common denominator: sixty terms
+-- A(k), times the common denominator: sixty terms. It is not negative (`SeriesIsNotNegative`), so nothing is cut off at 0
 abbrev pub series : ℕ → ℕ
 series k = evenTerms k 30 - oddTerms k 30
 
@@ -36,3 +39,8 @@ series k = evenTerms k 30 - oddTerms k 30
 -- floor taken. All stands over the denominator 2 × 10^16 × common
 unfoldable pub knot : ℕ → ℕ
 knot k = (10 ^ 9 * (10 ^ 16 * common + 2 * 3989422804014327 * series k) + 10 ^ 16 * common) / (2 * (10 ^ 16 * common))
+
+-- the rule and rising order hold for the whole table, T(0) to T(500)
+pub record IsTable (table : List ℕ) : Type 0 where
+  pub rule : (k : ℕ) → k ≤ 500 → getD table k 0 ≡ knot k
+  pub rises : (k : ℕ) → k < 500 → getD table k 0 < getD table (suc k) 0

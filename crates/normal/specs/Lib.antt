@@ -1,2 +1,3 @@
 pub mod Knot
 pub mod Normal
+pub mod Promises

@@ -1,7 +1,7 @@
 // The normal distribution function N(p) of a fraction p, between the 501 knots of its table.
 ghost use mathlib.Core.Path.{_≡_};
 ghost use Prim.Native.Nat.{suc, _+_, _-_, _*_, _/_, _<_};
-ghost use Rattle.normal.specs.Knot.{knot};
+ghost use Rattle.normal.specs.Knot.{knot, IsTable};
 ghost use Rattle.normal.specs.Normal.{upper, normal};
 
 mod knots;
@@ -21,12 +21,11 @@ struct Quotient {
     rest: u64,
 }
 
-// The table is built once for the two reads.
-fn interval_at(k: usize) -> Interval
-    requires { ⌜ k < 500 ⌝ }
+// The two reads of a table that is lent, so that it is built once.
+fn interval_at(table: &[u32; 501], k: usize) -> Interval
+    requires { ⌜ (k < 500) × IsTable (now table) ⌝ }
     ensures { λ r. ⌜ (r .low ≡ knot k) × (r .step ≡ knot (suc k) - knot k) ⌝ }
 {
-    let table = KNOTS;
     let low = table[k] as u64;
     let high = table[k + 1] as u64;
     Interval {
@@ -92,7 +91,8 @@ fn upper_half(numerator: u64, denominator: u64) -> u64
     if 500 <= k {
         return 1000000000;
     }
-    let interval = interval_at(k as usize);
+    let table = KNOTS;
+    let interval = interval_at(&table, k as usize);
     interval.low + share(interval.step, numerator % denominator, denominator)
 }
 

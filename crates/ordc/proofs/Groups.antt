@@ -6,19 +6,22 @@ use mathlib.Core.Bool.{Bool, true, false}
 use mathlib.Core.List.{List, [], _∷_, _++_, append-assoc}
 use mathlib.Core.Path.{_≡_, refl}
 use borrow.Author.Tests.{le-ltb}
-use lib.IntN.{ℤ, pos}
+use lib.IntN.{ℤ, pos, negsuc}
 use lib.ListN.{length, take, drop, getD, set}
 use lib.Seq.{drop-cons, drop-drop, getD-drop, lt-length-set, take-suc-set}
-use Rattle.block.specs.Block.{value}
-use Rattle.record.specs.Record.{noHours}
-use Rattle.possible.specs.Possible.{allPossible}
-use Rattle.history.specs.Booking.{booked}
-use Rattle.history.proofs.Closure.{booked-possible}
-use Rattle.curve_set.specs.declared.answer.Answer.the-variants as answer
-use Rattle.record.specs.declared.Group.{Group}
-use Rattle.record.specs.declared.Record.{Record}
-use Rattle.ordc.specs.Record.{countOf, groupsOf, groupValues}
-use Rattle.ordc.specs.Promises.{RecordIsReadBack}
+use Rattle.text_schema.specs.Schema.{value}
+use Rattle.curve_record.specs.Record.{noHours}
+use Rattle.curve_record.specs.Possible.{possible, recordPossible}
+use Rattle.curve_record.proofs.RecordGroups.{group-held}
+use Rattle.curve_record.proofs.PossibleGroups.{possible-at, possible-is}
+use Rattle.curve_booking.specs.Booking.{booked}
+use Rattle.curve_booking.proofs.Booked.{booked-impossible}
+use Rattle.curve_booking.proofs.Closure.{booked-possible}
+use Rattle.text_refusal.specs.declared.answer.Answer.the-variants as answer
+use Rattle.curve_record.specs.declared.Group.{Group}
+use Rattle.curve_record.specs.declared.Record.{Record}
+use Rattle.ordc.specs.Record.{countOf, groupsOf, groupValues, recordOf}
+use Rattle.ordc.specs.Promises.{RecordIsReadBack, RecordIsWrittenBack}
 
 -- the group whose numbers start at a place
 abbrev pub groupFrom : List ℤ → ℕ → Group
@@ -79,12 +82,27 @@ groups-of-values (suc n) (g ∷ groups) l = rw (le-ltb (g .count) 0 (omega arith
 pub record-is-read-back : RecordIsReadBack
 record-is-read-back history l = rw (groups-of-values 24 (history .groups) l)
 
+count-back : (z squares : ℤ) (sum : ℤ) → possible (record { count = countOf z; sum = sum; squares = squares }) ≡ true → pos (countOf z) ≡ z
+count-back (pos n) squares sum e = rw (le-ltb n 0 (omega arith))
+count-back (negsuc n) squares sum e = absurd (omega (arith, possible-is (record { count = 1001; sum = sum; squares = squares }) e .small .count))
+
+values-of-groups :
+    (n : ℕ) (values : List ℤ) → length values ≡ 3 * n → ((i : ℕ) → i < n → possible (getD (groupsOf n values) i noHours) ≡ true) → groupValues (groupsOf n values) ≡ values
+unfolding groupsOf groupValues
+values-of-groups zero [] l each = refl
+values-of-groups zero (count ∷ values) l each = absurd (omega arith)
+values-of-groups (suc n) [] l each = absurd (omega arith)
+values-of-groups (suc n) (count ∷ []) l each = absurd (omega arith)
+values-of-groups (suc n) (count ∷ (sum ∷ [])) l each = absurd (omega arith)
+values-of-groups (suc n) (count ∷ (sum ∷ (squares ∷ values))) l each = rw (count-back count squares sum (each 0 (omega arith)), values-of-groups n values (omega arith) (λ i h. each (suc i) (omega arith)))
+
+pub record-is-written-back : RecordIsWrittenBack
+record-is-written-back values l e = values-of-groups 24 values l (λ i h. rw (group-held (recordOf values) i) at (possible-at (recordOf values) e i h))
+
 -- an accepted booking has a record that is not impossible
-pub accepted-possible :
-    (history : Record) (text : List ℕ) → booked history text .answer ≡ answer.Accepted → allPossible (booked history text .history .groups) ≡ true
-unfolding booked
-accepted-possible history text = go (allPossible (history .groups)) refl
+pub accepted-possible : (history : Record) (text : List ℕ) → booked history text .answer ≡ answer.Accepted → recordPossible (booked history text .history) ≡ true
+accepted-possible history text = go (recordPossible history) refl
   where
-    go : (b : Bool) → allPossible (history .groups) ≡ b → booked history text .answer ≡ answer.Accepted → allPossible (booked history text .history .groups) ≡ true
+    go : (b : Bool) → recordPossible history ≡ b → booked history text .answer ≡ answer.Accepted → recordPossible (booked history text .history) ≡ true
     go true e = λ _. booked-possible history text e
-    go false e = rw e (λ (n : answer.Refused (record { number = 1; line = 0 }) ≡ answer.Accepted). let z : _≡_ {A = ℕ} 0 1 = cc in absurd (omega arith))
+    go false e = rw (booked-impossible history text e) (λ (n : answer.Refused (record { number = 1; line = 0 }) ≡ answer.Accepted). let z : _≡_ {A = ℕ} 0 1 = cc in absurd (omega arith))

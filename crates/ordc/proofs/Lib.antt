@@ -2,3 +2,6 @@
 pub mod Groups
 pub mod Answered
 pub mod Numbered
+pub mod Calls
+pub mod Refusals
+pub mod Promises

@@ -4,23 +4,23 @@ use mathlib.Core.List.{List, [], _∷_}
 use lib.IntN.{ℤ, pos, natAbs}
 use lib.Signed.{ltZ}
 use lib.ListN.{drop}
-use Rattle.text.specs.Choice.{pick}
-use Rattle.block.specs.Block.{value}
-use Rattle.curve_values.specs.CurveValues.{curveValues}
+use mathlib.Core.Bool.{cond}
+use Rattle.text_schema.specs.Schema.{value}
+use Rattle.curve_set.specs.CurveValues.{curveValues}
 use Rattle.curve_set.specs.declared.Curves.{Curves}
-use Rattle.history.specs.Booking.{booked}
-use Rattle.settling.specs.Settle.{settled}
-use Rattle.record.specs.declared.Group.{Group}
-use Rattle.record.specs.declared.Record.{Record}
-use Rattle.history.specs.declared.Booking.{Booking}
-use Rattle.ordc.specs.Refusal.{refusalIn, Answered}
-use Rattle.ordc.specs.declared.refusal.Refusal.{Refusal}
+use Rattle.curve_booking.specs.Booking.{booked}
+use Rattle.curve_settling.specs.Settle.{settled}
+use Rattle.curve_record.specs.declared.Group.{Group}
+use Rattle.curve_record.specs.declared.Record.{Record}
+use Rattle.curve_booking.specs.declared.Booking.{Booking}
+use Rattle.ordc.specs.Reply.{replyTo, Answered}
+use Rattle.ordc.specs.declared.reply.Reply.{Reply}
 
 -- ---- the layout
 
 -- a count below 0 is as impossible (1) as one over 1000
 abbrev pub countOf : ℤ → ℕ
-countOf z = pick (ltZ z (pos 0)) 1001 (natAbs z)
+countOf z = cond (ltZ z (pos 0)) 1001 (natAbs z)
 
 unfoldable pub groupsOf : ℕ → List ℤ → List Group
 groupsOf zero values = []
@@ -39,13 +39,13 @@ recordValues history = groupValues (history .groups)
 -- ---- the functions
 
 -- an accepted hour lays the booked record; a refused one leaves the record
-abbrev pub HourBooked : List ℤ → List ℕ → List ℤ → Refusal → Type 0
-HourBooked before text after r =
+abbrev pub BookCalled : List ℤ → List ℕ → List ℤ → Reply → Type 0
+BookCalled before text after r =
     let booking : Booking = booked (recordOf before) text in
-    Answered (refusalIn (booking .answer)) before (recordValues (booking .history)) after r
+    Answered (replyTo (booking .answer)) before (recordValues (booking .history)) after r
 
 -- an accepted settling lays the curve set: VOLL, X, then mean and spread of each group; a refused one leaves it
-abbrev pub RecordSettled : List ℤ → ℤ → ℤ → List ℤ → List ℤ → Refusal → Type 0
-RecordSettled history voll floor before after r =
+abbrev pub SettleCalled : List ℤ → ℤ → ℤ → List ℤ → List ℤ → Reply → Type 0
+SettleCalled history voll floor before after r =
     let curves : Curves = settled (recordOf history) voll floor in
-    Answered (refusalIn (curves .answer)) before (curveValues (curves .set)) after r
+    Answered (replyTo (curves .answer)) before (curveValues (curves .set)) after r

@@ -1,5 +1,8 @@
 // What hosts link: booking, settling, reading and writing a curve text, and pricing, over bytes and numbers alone, under names of C.
-pub mod booking;
-pub mod curve_text;
+pub mod book;
+mod layout;
 pub mod price;
-pub mod refusal;
+pub mod read_curves;
+pub mod reply;
+pub mod settle;
+pub mod write_curves;

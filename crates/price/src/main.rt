@@ -2,9 +2,9 @@
 use libc::STDERR_FILENO;
 use libc::STDIN_FILENO;
 use libc::STDOUT_FILENO;
-use piece::part;
-use price_text::price_text;
-use writer::Written;
+use program_price::price_text;
+use text_line::piece::part;
+use text_writer::Written;
 
 // What was read: so many bytes up to the input's end or the space's, or a read failed.
 enum Input {
@@ -43,6 +43,7 @@ fn main() {
     };
     let mut output = [0u8; 256];
     let written = price_text(part(&space, 0, length), &mut output);
+    // What is printed has at most 256 bytes, so the buffer is never too short (`PriceOutputIsShort`).
     let Written::Ended { next } = written else {
         return;
     };

@@ -4,3 +4,4 @@ pub mod Raised
 pub mod Settling
 pub mod Small
 pub mod Promises
+pub mod Numbered

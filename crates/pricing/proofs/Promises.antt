@@ -1,43 +1,44 @@
 -- Demand 3: the three statements of specs/Promises.antt, from the argument on prices, the order of prices and the fall of the means, which the crates below prove.
-use Prim.Native.Nat.{ℕ, _≤_}
-use mathlib.Core.Path.{_≡_, refl}
-use mathlib.Core.Bool.{Bool, true, false}
+use Prim.Native.Nat.{ℕ}
+use mathlib.Core.Path.{_≡_, refl, sym, _∙_}
 use mathlib.Core.List.{List}
-use lib.Signed.{_≤ℤ_, ≤ℤ-refl}
-use Rattle.text.specs.Choice.{pick}
-use Rattle.curve_set.specs.Curves.{curvesInRange}
-use Rattle.settling.specs.Settle.{settled}
-use Rattle.record.specs.Record.{fresh}
-use Rattle.history.specs.Promises.{bookedAll}
+use lib.Signed.{≤ℤ-refl}
+use Rattle.curve_settling.specs.Settle.{settled}
+use Rattle.curve_record.specs.Record.{fresh}
+use Rattle.curve.specs.Lists.{bookedAll}
 use Rattle.curve_set.specs.declared.CurveSet.{CurveSet}
-use Rattle.adder.specs.Price.{pairFor, pricesOf, refusedPricing}
-use Rattle.price_order.specs.Promises.{CurvesLowered}
-use Rattle.price_order.proofs.Order.{more-reserve-never-raises-prices, offline-online-value}
-use Rattle.adder.specs.declared.sums.Header.{Header}
-use Rattle.adder.specs.declared.price.Prices.{Prices}
-use Rattle.adder.specs.declared.price.Pricing.the-variants as pricing
-use Rattle.sums.specs.Sums.{sumsOf}
-use Rattle.snapshot.specs.Snapshot.{Entry, SnapshotAnswer, read, turned-back, snapshotIn, resourcesOf}
-use Rattle.pricing.specs.Pricing.{pricedSnapshot, priced}
+use Rattle.pricing_adder.specs.Price.{pairFor, pricesOf}
+use Rattle.pricing_order.specs.Promises.{CurvesLowered}
+use Rattle.pricing_order.proofs.Order.{more-reserve-never-raises-prices, offline-online-value}
+use Rattle.pricing_sums.specs.declared.header.Header.{Header}
+use Rattle.pricing_adder.specs.declared.price.Prices.{Prices}
+use Rattle.pricing_adder.specs.declared.price.Pricing.{Pricing}
+use Rattle.pricing_adder.specs.declared.price.Pricing.the-variants as pricing
+use Rattle.pricing_sums.specs.Part.{sumsOf}
+use Rattle.pricing_snapshot.specs.Snapshot.{Entry, SnapshotAnswer, read, snapshotIn, resourcesOf}
+use Rattle.pricing.specs.Pricing.{priced}
 use Rattle.pricing.specs.Promises.{SnapshotRaised, snapshot-raised, NeitherPriceRises, RaisedReserveNeverRaisesPrices, RaisedReserveNeverRaisesPricesOnCurves, OfflineOnlineValueInOrder}
+use Rattle.pricing.proofs.Pricing.{PricedCase, impossible-curves, refused-snapshot, prices-given, priced-case}
 use Rattle.pricing.proofs.Raised.{raised-sums}
-use Rattle.sums.proofs.Parts.{offline-nonneg}
-use Rattle.snapshot.proofs.Readings.{HeaderInRange, snapshot-read}
+use Rattle.pricing_sums.proofs.Parts.{offline-nonneg}
+use Rattle.pricing_sums.proofs.Headers.{HeaderInRange}
+use Rattle.pricing_snapshot.proofs.Readings.{snapshot-read}
 use Rattle.pricing.proofs.Settling.{curves-lowered}
 
 -- the prices of an accepted pricing
 prices-are :
     (curves : CurveSet) (text : List ℕ) {h : Header} {entries : List Entry} {prices : Prices} → snapshotIn text ≡ read h entries →
     priced curves text ≡ pricing.Priced prices → pricesOf curves h (sumsOf (resourcesOf entries)) ≡ prices
-unfolding priced
-prices-are curves text {h} {entries} {prices} is e = go (curvesInRange curves) (snapshotIn text) is e
+prices-are curves text {h} {entries} {prices} is e = go (priced curves text) (priced-case curves text) e
   where
-    go :
-        (b : Bool) (a : SnapshotAnswer) → a ≡ read h entries → pick b (pricedSnapshot curves a) (refusedPricing 1 0) ≡ pricing.Priced prices →
-        pricesOf curves h (sumsOf (resourcesOf entries)) ≡ prices
-    go false a is e = cc
-    go true (turned-back found) is e = cc
-    go true (read h′ entries′) is e = cc
+    go : (a : Pricing) → PricedCase curves text a → a ≡ pricing.Priced prices → pricesOf curves h (sumsOf (resourcesOf entries)) ≡ prices
+    go a (impossible-curves i) e = cc
+    go a (refused-snapshot possible same) e = cc
+    go a (prices-given {h = h′} {entries = entries′} possible same) e =
+        let both : read h entries ≡ read h′ entries′ = sym is ∙ same in
+        let h-is : h ≡ h′ = cc in
+        let entries-is : entries ≡ entries′ = cc in
+        rw (h-is, entries-is) cc
 
 -- on any two curve sets of which the second is lower in the groups of headers in range
 raised :

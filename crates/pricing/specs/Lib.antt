@@ -1,4 +1,3 @@
--- Document 01, "Snapshot to reserves" and "The two prices": pricing a snapshot; the statements of demand 3.
+-- Document 01, "Snapshot to reserves" and "The two prices": pricing a snapshot; the statements of demands 1 to 3.
 pub mod Pricing
-pub mod Small
 pub mod Promises

@@ -7,38 +7,70 @@ use mathlib.Core.List.{List, [], _∷_}
 use lib.IntN.{ℤ}
 use lib.Signed.{_≤ℤ_}
 use lib.ListN.{length}
-use Rattle.text.specs.declared.refusal.Refusal.{Refusal}
-use Rattle.record.specs.Record.{fresh}
-use Rattle.settling.specs.Settle.{settled}
-use Rattle.history.specs.Promises.{ListsLowered, bookedAll}
+use Rattle.text_refusal.specs.Refusal.{lineOf}
+use Rattle.text_refusal.specs.declared.refusal.Fault.{Fault}
+use Rattle.text_line.specs.Field.{got, refused}
+use Rattle.curve_record.specs.Record.{fresh}
+use Rattle.curve_settling.specs.Settle.{settled}
+use Rattle.curve.specs.FirstRefusal.{Decides}
+use Rattle.curve.specs.Lists.{ListsLowered, bookedAll}
 use Rattle.curve_set.specs.Curves.{curvesInRange}
-use Rattle.curve_set.specs.declared.answer.Answer.the-variants as answer
+use Rattle.text_refusal.specs.declared.answer.Answer.the-variants as answer
 use Rattle.curve_set.specs.declared.CurveSet.{CurveSet}
-use Rattle.adder.specs.Price.{valueOfReserve, pricesOf, refusedPricing}
-use Rattle.price_order.specs.Promises.{HeaderRaised}
-use Rattle.adder.specs.declared.sums.Header.{Header}
-use Rattle.adder.specs.declared.price.Prices.{Prices}
-use Rattle.adder.specs.declared.price.Pricing.the-variants as pricing
-use Rattle.sums.specs.Sums.{sumsOf}
-use Rattle.snapshot.specs.Snapshot.{Entry, SnapshotAnswer, read, turned-back, resourcesOf, snapshotIn}
+use Rattle.pricing_adder.specs.Price.{valueOfReserve, pricesOf, priceValues, pricingNumber, pricingLine, pricingValues}
+use Rattle.pricing_order.specs.Promises.{HeaderRaised}
+use Rattle.pricing_sums.specs.declared.header.Header.{Header}
+use Rattle.pricing_adder.specs.declared.price.Prices.{Prices}
+use Rattle.pricing_adder.specs.declared.price.Pricing.{Pricing}
+use Rattle.pricing_adder.specs.declared.price.Pricing.the-variants as pricing
+use Rattle.pricing_sums.specs.Part.{sumsOf}
+use Rattle.pricing_snapshot.specs.Snapshot.{Entry, Contents, dueLines, SnapshotAnswer, read, resourcesOf, snapshotIn}
+use Rattle.pricing_snapshot.specs.Promises.{FaultyLine}
 use Rattle.pricing.specs.Pricing.{priced}
-use Rattle.resource.specs.declared.Generator.{Generator}
-use Rattle.resource.specs.declared.Controllable.{Controllable}
-use Rattle.resource.specs.declared.Load.{Load}
-use Rattle.resource.specs.declared.Resource.{Resource}
-use Rattle.resource.specs.declared.Resource.the-variants as resource
+use Rattle.pricing_resource.specs.declared.Generator.{Generator}
+use Rattle.pricing_resource.specs.declared.Controllable.{Controllable}
+use Rattle.pricing_resource.specs.declared.Load.{Load}
+use Rattle.pricing_resource.specs.declared.Resource.{Resource}
+use Rattle.pricing_resource.specs.declared.Resource.the-variants as resource
 
 -- ---- demands 1 and 2
 
--- 1 for an impossible curve set, then 2 for a long text, then the first fault of the snapshot's lines; nothing else is refused
-abbrev pub PricingIsRefusedFirst : Type 0
-PricingIsRefusedFirst =
-    (curves : CurveSet) (text : List ℕ) →
-    (curvesInRange curves ≡ false → priced curves text ≡ refusedPricing 1 0)
-    × (curvesInRange curves ≡ true → 1048576 < length text → priced curves text ≡ refusedPricing 2 0)
-    × ((found : Refusal) → curvesInRange curves ≡ true → snapshotIn text ≡ turned-back found → priced curves text ≡ pricing.Refused found)
+-- an answer by its number, its line and its six numbers; a refusal gives no numbers
+pub record PricingOutcome : Type 0 where
+  pub number : ℕ
+  pub line : ℕ
+  pub values : List ℤ
 
--- every other pricing equals the formulas
+abbrev pub outcome : Pricing → PricingOutcome
+outcome given = record { number = pricingNumber given; line = pricingLine given; values = pricingValues given }
+
+abbrev pub refusedOutcome : ℕ → ℕ → PricingOutcome
+refusedOutcome number line = record { number = number; line = line; values = [] }
+
+-- the answer case by case
+pub data PricingCase (curves : CurveSet) (text : List ℕ) : PricingOutcome → Type 0 where
+  -- 1 with line 0 for an impossible curve set
+  impossible-set : curvesInRange curves ≡ false → PricingCase curves text (refusedOutcome 1 0)
+  -- then 2 with line 0 for a text that is too long
+  text-too-long : curvesInRange curves ≡ true → 1048576 < length text → PricingCase curves text (refusedOutcome 2 0)
+  -- then the first faulty line (3 to 8), lines in order and within a line by number
+  faulty-line :
+      (found : Fault) → curvesInRange curves ≡ true → length text ≤ 1048576 → dueLines text ≡ refused found → FaultyLine text found →
+      PricingCase curves text (refusedOutcome (found .number) (lineOf text (found .at)))
+  -- then 9 with the line after the last due one
+  bytes-after-lines :
+      (found : Contents) (next : ℕ) → curvesInRange curves ≡ true → length text ≤ 1048576 → dueLines text ≡ got found next → next < length text →
+      PricingCase curves text (refusedOutcome 9 (lineOf text next))
+  -- the prices are those of the formulas
+  snapshot-priced :
+      (found : Contents) (next : ℕ) → curvesInRange curves ≡ true → length text ≤ 1048576 → dueLines text ≡ got found next → length text ≤ next →
+      PricingCase curves text (record { number = 0; line = 0; values = priceValues (pricesOf curves (found .header) (sumsOf (resourcesOf (found .entries)))) })
+
+-- nothing is refused but in these cases, and where two hold they give one answer
+abbrev pub PricingIsRefusedFirst : Type 0
+PricingIsRefusedFirst = (curves : CurveSet) (text : List ℕ) → Decides (PricingCase curves text) (outcome (priced curves text))
+
+-- a snapshot that was read is priced by the formulas
 abbrev pub PricesEqualTheFormulas : Type 0
 PricesEqualTheFormulas =
     (curves : CurveSet) (text : List ℕ) (h : Header) (entries : List Entry) → curvesInRange curves ≡ true → snapshotIn text ≡ read h entries →
@@ -75,7 +107,7 @@ pub record LoadRaised (first second : Load) : Type 0 where
   pub rrsok : first .rrsok ≡ second .rrsok
   pub net : first .net ≤ℤ second .net
   pub rrs : first .rrs ≤ℤ second .rrs
-  pub lpc : second .lpc ≤ℤ first .lpc  -- the low limit
+  pub lpc : second .lpc ≤ℤ first .lpc
 
 pub data ResourceRaised : Resource → Resource → Type 0 where
   generator-raised : {first second : Generator} → GeneratorRaised first second → ResourceRaised (resource.Generator first) (resource.Generator second)

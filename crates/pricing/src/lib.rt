@@ -1,15 +1,15 @@
 // The two prices of a snapshot on a curve set.
 ghost use mathlib.Core.Path.{_≡_};
 ghost use Rattle.pricing.specs.Pricing.{priced};
-use adder::price::Pricing;
-use adder::price::price_sums;
 use curve_set::CurveSet;
 use curve_set::curves_in_range;
-use snapshot::Snapshot;
-use snapshot::read_snapshot;
-use text::refusal::Refusal;
+use pricing_adder::price::Pricing;
+use pricing_adder::price::price_sums;
+use pricing_snapshot::Snapshot;
+use pricing_snapshot::read_snapshot;
+use text_refusal::refusal::Refusal;
 
-// The prices of a snapshot's text, or why it is turned back: an impossible curve set comes first.
+// The prices of a snapshot's text, or why it is refused: an impossible curve set comes first.
 pub fn price(curves: CurveSet, text: &[u8]) -> Pricing
     ensures { λ r. ⌜ r ≡ priced curves (now (text .entry)) ⌝ }
 {

@@ -5,20 +5,20 @@ use crate::input::read_numbers;
 use crate::output::show;
 use crate::output::show_answer;
 use crate::output::show_count;
-use ordc::booking::ordc_book;
-use ordc::booking::settle::ordc_settle;
-use ordc::curve_text::ordc_read_curves;
-use ordc::curve_text::write::ordc_write_curves;
+use ordc::book::ordc_book;
 use ordc::price::ordc_price;
-use ordc::refusal::Refusal;
-use piece::part;
-use price_text::price_text;
-use stream_input::feed;
-use stream_output::finish;
-use writer::Written;
+use ordc::read_curves::ordc_read_curves;
+use ordc::reply::Reply;
+use ordc::settle::ordc_settle;
+use ordc::write_curves::ordc_write_curves;
+use program_curves::input::feed;
+use program_curves::output::finish;
+use program_price::price_text;
+use text_line::piece::part;
+use text_writer::Written;
 
 // The arrays that an operation is lent are shown on a refusal too, where they have to stand as before.
-fn show_record(refusal: Refusal, history: &[i64; 72]) {
+fn show_record(refusal: Reply, history: &[i64; 72]) {
     show_answer(refusal, history);
 }
 
@@ -29,7 +29,7 @@ fn book(fd: i32, text: &[u8]) {
     show_record(refusal, &history);
 }
 
-fn show_curves(refusal: Refusal, curves: &[i64; 50]) {
+fn show_curves(refusal: Reply, curves: &[i64; 50]) {
     show_answer(refusal, curves);
 }
 
@@ -68,7 +68,7 @@ fn write(fd: i32, text: &mut [u8]) {
     show_count(checksum(text));
 }
 
-fn show_prices(refusal: Refusal, prices: &[i64; 6]) {
+fn show_prices(refusal: Reply, prices: &[i64; 6]) {
     show_answer(refusal, prices);
 }
 
@@ -106,7 +106,7 @@ fn run_price(input: &[u8]) {
 fn run_curves(fd: i32, input: &[u8]) {
     let first = read_count(fd, input.len());
     let mut buffer = io::large_buffer();
-    let begun = feed(stream::start(), &mut buffer, part(input, 0, first));
+    let begun = feed(program_curves::start(), &mut buffer, part(input, 0, first));
     let ended = feed(begun, &mut buffer, part(input, first, input.len()));
     let mut output = [0u8; 768];
     let length = finish(ended, &buffer, &mut output);

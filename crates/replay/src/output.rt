@@ -1,7 +1,7 @@
 // What is written of an answer.
 use integer::magnitude;
 use libc::STDOUT_FILENO;
-use ordc::refusal::Refusal;
+use ordc::reply::Reply;
 
 pub(crate) fn show(bytes: &[u8]) {
     io::write_all(STDOUT_FILENO, bytes);
@@ -24,7 +24,7 @@ fn show_number(z: i64) {
 }
 
 // The refusal's number and its line; 0 is no refusal's number.
-fn show_refusal(refusal: Refusal) {
+fn show_refusal(refusal: Reply) {
     if refusal.number == 0 {
         show(b"accepted");
         return;
@@ -36,7 +36,7 @@ fn show_refusal(refusal: Refusal) {
 }
 
 // An answer: its refusal, and the numbers that the operation was lent.
-pub(crate) fn show_answer(refusal: Refusal, values: &[i64]) {
+pub(crate) fn show_answer(refusal: Reply, values: &[i64]) {
     show_refusal(refusal);
     let mut i: usize = 0;
     while i < values.len() {

@@ -1,3 +1,3 @@
--- Laws that the proofs of several functions share, and that crates above cite.
-pub mod Choices
-pub mod Refusals
+-- The proofs of the named statements of specs/Promises.antt, and laws that crates above cite.
+pub mod RoundTrip
+pub mod Values

@@ -1,4 +1,2 @@
--- Refusals, byte strings, a choice by a test.
-pub mod Choice
-pub mod Bytes
-pub mod Refusal
+-- What the text storey promises.
+pub mod Promises

@@ -5,11 +5,11 @@ use Rattle.curve_set.specs.Curves.{curvesInRange}
 use Rattle.curve_set.proofs.curves_in_range.Statement.{statement}
 use Rattle.curve_set.proofs.curves_in_range.Tie as tie
 
-is-within-requires : tie.Need-is-within-requires
-is-within-requires c κs = tt
+voll-in-range-requires : tie.Need-voll-in-range-requires
+voll-in-range-requires c κs = tt
 
-is-within-requires-2 : tie.Need-is-within-requires-2
-is-within-requires-2 c κs = tt
+floor-in-range-requires : tie.Need-floor-in-range-requires
+floor-in-range-requires c κs = tt
 
 pairs-in-range-requires : tie.Need-pairs-in-range-requires
 pairs-in-range-requires c κs = tt
@@ -20,8 +20,8 @@ returns c =
     let second = c .before in
     let first = second .before .before in
     let g = first .before .struct-told .given in
-    rw (first .is-within .ensures, second .is-within2 .ensures, c .pairs-in-range .ensures)
+    rw (first .voll-in-range .ensures, second .floor-in-range .ensures, c .pairs-in-range .ensures)
     (rw (toZ-ofZ (sfits-of (g .0 .1)), toZ-ofZ (sfits-of (g .1 .0 .1))))
 
 pub curves-in-range-spec : {M : Type 1} → statement M
-curves-in-range-spec = tie.close (tie.spec is-within-requires is-within-requires-2 pairs-in-range-requires returns)
+curves-in-range-spec = tie.close (tie.spec voll-in-range-requires floor-in-range-requires pairs-in-range-requires returns)

@@ -1,19 +1,13 @@
--- The calls chain to the pricing, which is taken apart; its numbers are small, so that each fits, and are laid where it is accepted.
+-- The calls chain to the pricing, which is taken apart; its numbers are laid where it is accepted.
 use Prim.Native.Nat.{ℕ}
-use borrow.Author.Needs.{sfits-of}
-use native.Mathlib.Omega.{arith}
 use mathlib.Core.List.{List}
-use mathlib.Core.Path.{_≡_, ap, sym, subst, _∙_}
+use mathlib.Core.Path.{_≡_, ap, sym, _∙_}
 use denote.Ref.{now}
-use mir.Facts.{toZ-ofZ}
-use Rattle.integer.proofs.Bounds.{abs-fits}
-use Rattle.adder.specs.declared.price.Pricing.{Pricing}
-use Rattle.curve_values.specs.CurveValues.{curvesOf}
+use Rattle.pricing_adder.specs.declared.price.Pricing.{Pricing}
+use Rattle.curve_set.specs.CurveValues.{curvesOf}
 use Rattle.curve_set.specs.declared.CurveSet.{CurveSet}
 use Rattle.pricing.specs.Pricing.{priced}
-use Rattle.pricing.specs.Small.{SmallPrices, SmallPricing}
-use Rattle.pricing.proofs.Small.{priced-small}
-use Rattle.ordc.specs.Price.{pricingAnswer, pricingValues}
+use Rattle.ordc.specs.Price.{pricingAnswer}
 use Rattle.ordc.proofs.Answered.{lent-laid, lent-left}
 use Rattle.ordc.proofs.Numbered.{refusals-are-numbered}
 use Rattle.ordc.proofs.price.ordc_price.Statement.{statement}
@@ -43,22 +37,8 @@ text-of c = now (c .before .before .before .before .args .text)
 pricing : (c : tie.After-price) {found : Pricing} → c .price .result ≡ found → priced (set c) (text-of c) ≡ found
 pricing c e = sym (c .price .ensures ∙ ap (λ (curves : CurveSet). priced curves (text-of c)) (c .before .curves-of .ensures)) ∙ e
 
-small : (c : tie.After-pricing2) → SmallPrices (c .pricing2 .given .0 .0)
-small c =
-    let called = c .before .before in
-    subst SmallPricing (pricing called (c .pricing2 .given .1)) (priced-small (set called) (text-of called))
-
-cast-pis : tie.Need-cast-pis
-cast-pis c = omega (arith, abs-fits, small (c .before .before) .pis)
-
-cast-pins : tie.Need-cast-pins
-cast-pins c = omega (arith, abs-fits, small (c .before .before .before) .pins)
-
-cast-online : tie.Need-cast-online
-cast-online c = omega (arith, abs-fits, small (c .before .before .before .before) .online)
-
-cast-offline : tie.Need-cast-offline
-cast-offline c = omega (arith, abs-fits, small (c .before .before .before .before .before) .offline)
+price-values-requires : tie.Need-price-values-requires
+price-values-requires c κs = tt
 
 returns : tie.Need-returns
 returns c =
@@ -68,23 +48,9 @@ returns c =
 
 returns-2 : tie.Need-returns-2
 returns-2 c =
-    let at-offline = c .before .before in
-    let at-online = at-offline .before in
-    let at-pins = at-online .before in
-    let at-pis = at-pins .before in
-    let told = at-pis .before .before in
-    let e = pricing (told .before .before) (told .pricing2 .given .1) in
-    let g = c .before .struct-told .given in
-    lent-laid (ap pricingAnswer e)
-    (rw (
-      e,
-      toZ-ofZ (sfits-of (g .0 .1)),
-      toZ-ofZ (sfits-of (g .1 .0 .1)),
-      toZ-ofZ (cast-pis at-pis),
-      toZ-ofZ (cast-pins at-pins),
-      toZ-ofZ (cast-online at-online),
-      toZ-ofZ (cast-offline at-offline),
-    ))
+    let accepted = c .before .before in
+    let e = pricing (accepted .before .before) (accepted .pricing2 .given .1) in
+    lent-laid (ap pricingAnswer e) (c .price-values .ensures ∙ rw e)
 
 pub ordc-price-spec : {M : Type 1} → statement M
 ordc-price-spec =
@@ -95,9 +61,6 @@ ordc-price-spec =
     enum-known-pricing
     refused-requires
     enum-known-pricing-2
-    cast-pis
-    cast-pins
-    cast-online
-    cast-offline
+    price-values-requires
     returns
     returns-2)

@@ -1,4 +1,0 @@
--- Document 01, "Snapshot to reserves" after the sums, and "The two prices".
-pub mod Sums
-pub mod Reserve
-pub mod Price

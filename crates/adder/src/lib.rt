@@ -1,4 +1,0 @@
-// Reserves and the two prices from sums and header numbers.
-pub mod price;
-mod reserve;
-pub mod sums;

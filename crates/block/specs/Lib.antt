@@ -1,2 +1,0 @@
--- Blocks of lines by a schema.
-pub mod Block

@@ -1,0 +1,2 @@
+-- Document 01, "History to curves": settling.
+pub mod Settle

@@ -1,0 +1,4 @@
+-- Laws that the functions and crates above cite.
+pub mod CurveText
+pub mod CurveCases
+pub mod CurveFields

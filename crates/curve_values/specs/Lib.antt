@@ -1,2 +1,0 @@
--- A curve set as a list of numbers.
-pub mod CurveValues

@@ -1,4 +1,0 @@
--- Laws that the proofs of several functions share, and that crates above cite; the proofs of the named statements of specs/Promises.antt.
-pub mod Closure
-pub mod Shift
-pub mod Booked

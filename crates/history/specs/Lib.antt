@@ -1,3 +1,0 @@
--- Document 01, "History to curves": booking hours; two lists of bookings.
-pub mod Booking
-pub mod Promises

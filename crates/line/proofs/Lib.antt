@@ -1,3 +1,0 @@
--- Laws that the proofs of several functions share, and that crates above cite.
-pub mod Lines
-pub mod Fields

@@ -1,5 +1,0 @@
--- Laws that the proofs of several functions share, and that crates above cite.
-pub mod Digits
-pub mod Numbers
-pub mod Fields
-pub mod Naturals

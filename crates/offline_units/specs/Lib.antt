@@ -1,2 +1,0 @@
--- Document 01, "Snapshot to reserves": whose HSL is counted off line.
-pub mod Offline

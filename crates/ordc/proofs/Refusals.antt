@@ -1,0 +1,74 @@
+-- Demand 1 over the calls: each answers as the operation that it calls, and no refusal has the number 0.
+use Prim.Native.Nat.{ℕ}
+use native.Mathlib.Omega.{arith}
+use mathlib.Core.List.{List}
+use mathlib.Core.Path.{_≡_, refl, sym, _∙_}
+use Rattle.text_refusal.specs.declared.refusal.Refusal.{Refusal}
+use Rattle.curve_set.specs.CurveValues.{curvesOf}
+use Rattle.text_refusal.specs.declared.answer.Answer.{Answer}
+use Rattle.text_refusal.specs.declared.answer.Answer.the-variants as answer
+use Rattle.curve_set.specs.declared.CurveSet.{CurveSet}
+use Rattle.curve_text.specs.CurveText.{readCurves, writingCurves, writingAnswer, writtenBuffer}
+use Rattle.curve.specs.FirstRefusal.{Writing, WritingCurvesCase, set-impossible, buffer-short, text-written}
+use Rattle.curve.proofs.FirstRefusal.{writing-curves-is-refused-first}
+use Rattle.curve_settling.specs.Settle.{settled}
+use Rattle.curve_booking.specs.Booking.{booked}
+use Rattle.pricing.specs.Pricing.{priced}
+use Rattle.ordc.specs.Reply.{replyTo, Answered}
+use Rattle.ordc.specs.Record.{recordOf}
+use Rattle.ordc.specs.Price.{pricingAnswer}
+use Rattle.ordc.specs.Promises.{Numbered, CallEnds, BookCallIsRefusedFirst, SettleCallIsRefusedFirst, ReadCurvesCallIsRefusedFirst, WriteCurvesCallIsRefusedFirst, PriceCallIsRefusedFirst}
+use Rattle.ordc.specs.declared.reply.Reply.{Reply}
+use Rattle.ordc.proofs.Calls.{Ended, ended-accepted, ended-refused, ended-by}
+use Rattle.ordc.proofs.Numbered.{refusals-are-numbered}
+
+call-ends : {A : Type 0} {before given after : A} {r : Reply} (ended : Answer) → Numbered ended → Answered (replyTo ended) before given after r → CallEnds ended before given after r
+call-ends {A} {before} {given} {after} {r} ended n called =
+    record {
+      accepted = λ e. (rw e at (called .refuses), rw e at (called .lent));
+      refused = λ found e. (rw e at (called .refuses), left found e (ended-by ended n called));
+      numbered = λ none. go none (ended-by ended n called);
+    }
+  where
+    left : (found : Refusal) → ended ≡ answer.Refused found → Ended ended before given after r → after ≡ before
+    left found e (ended-accepted is none laid) = let z : _≡_ {A = ℕ} 0 1 = cc (sym is ∙ e) in absurd (omega arith)
+    left found e (ended-refused other is told number same) = same
+
+    go : r .number ≡ 0 → Ended ended before given after r → ended ≡ answer.Accepted
+    go none (ended-accepted is number laid) = is
+    go none (ended-refused found is told number same) = absurd (number none)
+
+pub book-call-is-refused-first : BookCallIsRefusedFirst
+book-call-is-refused-first before after text r called = call-ends (booked (recordOf before) text .answer) (refusals-are-numbered .booking (recordOf before) text) called
+
+pub settle-call-is-refused-first : SettleCallIsRefusedFirst
+settle-call-is-refused-first history before after voll floor r called =
+    call-ends (settled (recordOf history) voll floor .answer) (refusals-are-numbered .settling (recordOf history) voll floor) called
+
+pub read-curves-call-is-refused-first : ReadCurvesCallIsRefusedFirst
+read-curves-call-is-refused-first before after text r called = call-ends (readCurves text .answer) (refusals-are-numbered .reading text) called
+
+-- a refused writing leaves the buffer
+refused-leaves : (curves : CurveSet) (buffer : List ℕ) {found : Refusal} → writingAnswer (writingCurves curves buffer) ≡ answer.Refused found → writtenBuffer curves buffer ≡ buffer
+refused-leaves curves buffer {found} = go (writing-curves-is-refused-first curves buffer .applies)
+  where
+    go : {after : Writing} → WritingCurvesCase curves buffer after → after .answer ≡ answer.Refused found → after .buffer ≡ buffer
+    go (set-impossible out) e = refl
+    go (buffer-short inside short) e = refl
+    go (text-written inside room) e = let z : _≡_ {A = ℕ} 0 1 = cc in absurd (omega arith)
+
+pub write-curves-call-is-refused-first : WriteCurvesCallIsRefusedFirst
+write-curves-call-is-refused-first values buffer buffer′ before after r called =
+    let answered = writingAnswer (writingCurves (curvesOf values) buffer) in
+    let count = call-ends answered (refusals-are-numbered .writing (curvesOf values) buffer) (called .count) in (
+      count,
+      record {
+        accepted = λ e. (count .accepted e .0, called .bytes);
+        refused = λ found e. (count .refused found e .0, called .bytes ∙ refused-leaves (curvesOf values) buffer e);
+        numbered = count .numbered;
+      },
+    )
+
+pub price-call-is-refused-first : PriceCallIsRefusedFirst
+price-call-is-refused-first curves before after text r called =
+    call-ends (pricingAnswer (priced (curvesOf curves) text)) (refusals-are-numbered .pricing (curvesOf curves) text) called

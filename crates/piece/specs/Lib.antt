@@ -1,2 +1,0 @@
--- Parts and pieces of a byte string.
-pub mod Piece

@@ -1,0 +1,3 @@
+// Reserves and the two prices from sums and header numbers.
+pub mod price;
+mod reserve;

@@ -1,0 +1,3 @@
+-- Laws on flags, and on which units are counted.
+pub mod Flags
+pub mod Counted

@@ -1,0 +1,7 @@
+-- Laws that the proofs of several functions share, and that crates above cite.
+pub mod Cases
+pub mod Readings
+pub mod Summing
+pub mod Buckets
+pub mod Taken
+pub mod Snapshots

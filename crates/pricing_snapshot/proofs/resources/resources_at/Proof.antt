@@ -1,0 +1,86 @@
+use Prim.Native.Nat.{ℕ, _+_, _-_, _≤_, _<_}
+use native.Mathlib.Omega.{arith}
+use mathlib.Core.Path.{_∙_}
+use mir.Syntax.{w64}
+use mir.Val.{Fits}
+use Rattle.pricing_snapshot.proofs.Summing.{Summing, summing-start, summing-slots, summing-within, summing-stop, summing-next, summing-over}
+use Rattle.pricing_snapshot.proofs.resources.resources_at.Statement.{statement}
+use Rattle.pricing_snapshot.proofs.resources.resources_at.Tie as tie
+
+abbrev Inv-loop : tie.InvT-loop
+Inv-loop text at count starts₀ sums₀ next₀ n₀ starts sums next n = Summing text at count starts₀ starts sums next n
+
+abbrev μ-loop : tie.MeasureT-loop
+μ-loop text at count starts₀ sums₀ next₀ n₀ starts sums next n = count - n
+
+loop-holds : tie.Need-loop-holds Inv-loop μ-loop
+loop-holds c = let start = c .before .before in summing-start (start .args .text .now) (start .args .at) (start .args .count) (start .pre .0) (start .pre .1)
+
+new-id-requires : tie.Need-new-id-requires Inv-loop μ-loop
+new-id-requires c κs = let turn = c .before in summing-slots (turn .before .loop .inv) (turn .loop-test .taken)
+
+with-resource-requires : tie.Need-with-resource-requires Inv-loop μ-loop
+with-resource-requires c κs = let turn = c .before .before .before .before in summing-within (turn .before .loop .inv) (turn .loop-test .taken)
+
+enum-known-r : tie.Need-enum-known-r Inv-loop μ-loop
+enum-known-r c = c .match .keys1
+
+enum-told : tie.Need-enum-told Inv-loop μ-loop
+enum-told c = c .match .keys2
+
+-- the turn of the loop, seen from where the resource is read
+abbrev turn : tie.After-with-resource Inv-loop μ-loop → tie.In-loop Inv-loop μ-loop
+turn c = c .before .before .before .before .before
+
+same-length : tie.Need-same-length Inv-loop μ-loop
+same-length c = let r = c .before .before in r .before .before .starts .given ∙ turn r .before .loop .inv .long
+
+returns : tie.Need-returns Inv-loop μ-loop
+returns c =
+    let r = c .before .before in
+    let id = r .before .before .before .new-id in
+    summing-stop (turn r .before .loop .inv) (turn r .loop-test .taken) (id .result) (r .with-resource .ensures _) (id .ensures) (c .enum-told .given .1)
+
+fits : {n count : ℕ} → n < count → count ≤ 4096 → Fits w64 (n + 1)
+fits h few = omega arith
+
+add-n : tie.Need-add-n Inv-loop μ-loop
+add-n c = let at = turn (c .before .before .before) in fits (at .loop-test .taken) (at .before .loop .inv .room .few)
+
+fewer : {n count : ℕ} → n < count → count - (n + 1) < count - n
+fewer h = omega arith
+
+loop-less : tie.Need-loop-less Inv-loop μ-loop
+loop-less c = fewer (turn (c .before .before .before) .loop-test .taken)
+
+loop-again : tie.Need-loop-again Inv-loop μ-loop
+loop-again c =
+    let r = c .before .before .before in
+    let id = r .before .before .before .new-id in
+    summing-next (turn r .before .loop .inv) (turn r .loop-test .taken) (id .result) (r .with-resource .ensures _) (id .ensures) (c .before .r .given .1)
+    (r .before .before .starts .given)
+
+same-length-2 : tie.Need-same-length-2 Inv-loop μ-loop
+same-length-2 c = c .before .loop .inv .long
+
+returns-2 : tie.Need-returns-2 Inv-loop μ-loop
+returns-2 c = summing-over (c .before .loop .inv) (c .loop-test .left)
+
+pub resources-at-spec : {M : Type 1} → statement M
+resources-at-spec =
+    tie.close
+    (tie.spec
+    Inv-loop
+    μ-loop
+    loop-holds
+    new-id-requires
+    with-resource-requires
+    enum-known-r
+    enum-told
+    same-length
+    returns
+    add-n
+    loop-less
+    loop-again
+    same-length-2
+    returns-2)

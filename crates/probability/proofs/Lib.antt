@@ -1,2 +1,0 @@
--- Laws that crates above cite, and the proof of the named statement of specs/Promises.antt.
-pub mod ProbabilityOrder

@@ -1,3 +1,0 @@
--- Document 01, "The two prices": the two probabilities.
-pub mod Probability
-pub mod Promises

@@ -1,0 +1,4 @@
+-- Laws that the proofs of the functions share.
+pub mod EmptyLine
+pub mod Printing
+pub mod Short

@@ -1,2 +1,0 @@
--- Laws that crates above cite.
-pub mod Quadratic

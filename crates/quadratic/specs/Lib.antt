@@ -1,2 +1,0 @@
--- The sum of squares around a number.
-pub mod Quadratic

@@ -1,2 +1,0 @@
--- Ranges of numbers.
-pub mod Range

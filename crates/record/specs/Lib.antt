@@ -1,2 +1,0 @@
--- Document 01, "History to curves": the record.
-pub mod Record

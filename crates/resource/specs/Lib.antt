@@ -1,2 +1,0 @@
--- Document 01, "Snapshot to reserves": the ranges of a resource's numbers.
-pub mod Range

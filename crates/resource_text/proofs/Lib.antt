@@ -1,5 +1,0 @@
--- Laws on reading: a block by a schema, and what is read is in range.
-pub mod Readings
-pub mod Small
-pub mod Lines
-pub mod Making

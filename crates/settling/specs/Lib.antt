@@ -1,3 +1,0 @@
--- Document 01, "History to curves": settling.
-pub mod Settle
-pub mod Promises

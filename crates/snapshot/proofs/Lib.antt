@@ -1,6 +1,0 @@
--- Laws that the proofs of several functions share, and that crates above cite.
-pub mod Readings
-pub mod Summing
-pub mod Buckets
-pub mod Taken
-pub mod Snapshots

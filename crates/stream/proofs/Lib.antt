@@ -1,4 +1,0 @@
-pub mod Taking
-pub mod SettleLine
-pub mod Hours
-pub mod Promises

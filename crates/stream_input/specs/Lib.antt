@@ -1,2 +1,0 @@
--- What a stream that is not refused waits for.
-pub mod Waiting

@@ -1,2 +1,0 @@
--- Laws on parts and sums: their bounds.
-pub mod Parts

@@ -1,0 +1,4 @@
+-- Document 01, "Texts": numbers.
+pub mod Number
+pub mod Field
+pub mod internal

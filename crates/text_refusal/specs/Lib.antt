@@ -1,0 +1,4 @@
+-- Refusals and answers, byte strings.
+pub mod Bytes
+pub mod Refusal
+pub mod Answer

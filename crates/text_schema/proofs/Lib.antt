@@ -1,0 +1,6 @@
+-- Laws that the proofs of several functions share, and that crates above cite.
+pub mod Schemas
+pub mod Readings
+pub mod Moved
+pub mod Fields
+pub mod Written

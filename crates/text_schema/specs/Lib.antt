@@ -1,0 +1,2 @@
+-- Lines by a schema.
+pub mod Schema

@@ -1,0 +1,5 @@
+-- Laws that the proofs of several functions share, and that crates above cite.
+pub mod Laid
+pub mod Writing
+pub mod Refused
+pub mod BySchema
