@@ -5,8 +5,8 @@
 #   make tests                   the tests of the bindings in Rust and Python
 #   make damaged                 damaged texts handed to every function, under valgrind
 #   make stack                   every function in a thread with the stack that the header promises to be enough
-#   make programs                both programs beside the second implementation, and the memory of `curves`
-#   make wrong-mains             wrong versions of both programs, each of which an input of `make programs` must tell
+#   make programs                the programs beside the second implementation, and the memory of `curves`
+#   make wrong-mains             wrong versions of the programs, each of which an input of `make programs` must tell
 #   make bench                   the library beside the second implementation (a report, not a test)
 # What needs the library builds it first, where it is not there or older than a source.
 PREFIX ?= /usr/local
@@ -24,7 +24,7 @@ SOURCES := crates.txt $(shell find crates -name '*.rt' -o -name '*.antt')
 COMPILED := $(or $(CARGO_TARGET_DIR),$(CURDIR)/reference/target)
 REFERENCE := $(COMPILED)/release/reference
 
-.PHONY: lib install examples c-example rust-example python-example tests damaged stack programs wrong-mains reference both-programs bench
+.PHONY: lib install examples c-example rust-example python-example tests damaged stack programs wrong-mains reference built-programs bench
 .DELETE_ON_ERROR:
 
 lib: $(ARCHIVE) $(SHARED)
@@ -56,6 +56,7 @@ rust-example: $(ARCHIVE)
 
 python-example: $(SHARED)
 	PYTHONPATH=bindings/python ORDC_LIBRARY=$(SHARED) $(PYTHON) bindings/python/examples/price_folder.py bindings/python/examples/listing.curves bindings/python/examples/snapshots
+	PYTHONPATH=bindings/python ORDC_LIBRARY=$(SHARED) $(PYTHON) bindings/python/examples/print_page.py bindings/python/examples/listing.curves
 
 # the tests of the bindings
 tests: lib
@@ -72,14 +73,14 @@ stack: $(BUILD)/stack
 reference:
 	cd reference && cargo build --offline --release --quiet --target-dir $(COMPILED)
 
-both-programs:
+built-programs:
 	@mkdir -p target
-	rt check curves price > target/both-programs.log || { cat target/both-programs.log; exit 1; }
+	rt check curves price page > target/built-programs.log || { cat target/built-programs.log; exit 1; }
 
-programs: reference both-programs
+programs: reference built-programs
 	$(PYTHON) tests/programs.py target/bin $(REFERENCE)
 
-wrong-mains: reference both-programs
+wrong-mains: reference built-programs
 	$(PYTHON) tests/wrong_mains.py $(CURDIR) $(REFERENCE)
 
 bench: $(ARCHIVE)

@@ -3,8 +3,9 @@
  * Units: power in whole kW, money in whole cents per MWh, shares of one in billionths (1000000000 is 1).
  *
  * A text is lines `key=value`, each ended by byte 10, and is handed over as pointer and length. It needs no byte 0
- * at its end. A null pointer with length 0 is the empty text. Texts, arrays and buffers of one call must not overlap,
- * and an array must have the size that the function names. Pointers to arrays and numbers must not be null.
+ * at its end. A null pointer with length 0 is the empty text, and one with size 0 a buffer of no bytes. Texts, arrays
+ * and buffers of one call must not overlap, and an array must have the size that the function names. Pointers to arrays
+ * and numbers must not be null.
  *
  * Every function returns a struct ordc_refusal. Number 0 means accepted, and then line is 0 too. Any other number is
  * a refusal, 1 to 14 below. On a refusal every array, buffer and number that was lent is as it was before the call.
@@ -44,6 +45,7 @@ enum {
     ORDC_CURVES = 50,
     ORDC_ANSWER = 6,
     ORDC_CURVE_TEXT = 700, /* no written curve text is longer */
+    ORDC_PAGE = 1728,      /* every page has this many bytes */
     ORDC_STACK = 262144    /* no call needs a larger stack, in bytes */
 };
 
@@ -73,7 +75,7 @@ enum ordc_number {
     ORDC_ERROR_TOO_LARGE = 11,  /* the reserve error lies beyond +-20000000 kW */
     ORDC_TOO_FEW_HOURS = 12,    /* a group has fewer than 2 hours; line is the first faulty group, 0..23 */
     ORDC_SPREAD_ZERO = 13,      /* a group has spread 0; line is that group, 0..23 */
-    ORDC_BUFFER_SHORT = 14      /* the buffer is shorter than the curve text */
+    ORDC_BUFFER_SHORT = 14      /* the buffer is shorter than the curve text or the page */
 };
 
 struct ordc_refusal {
@@ -108,6 +110,23 @@ struct ordc_refusal ordc_read_curves(const uint8_t *text, size_t length, int64_t
  * Refusals: 1, 14. On a refusal buffer and written are as before. */
 struct ordc_refusal ordc_write_curves(const int64_t curves[ORDC_CURVES], uint8_t *buffer, size_t size,
                                       size_t *written);
+
+/* Writes a curve set's page to the front of a buffer; it has ORDC_PAGE bytes: a row of 72 bytes for each group, from
+ * group 0 on. The places of a row, from 0:
+ *   0..5    the season: winter, spring, summer, or fall and two spaces
+ *   7       the block, hour / 4: 0..5
+ *   9..17   the mean, kW
+ *   19..26  the spread, kW
+ *   28..37, 39..48, 50..59, 61..70
+ *           the probability of falling below X on an RSNS of X + 1000000, X + 2000000, X + 3000000 and X + 4000000 kW,
+ *           billionths
+ *   71      byte 10
+ * A number ends at the last of its places; all other places are spaces. Neither VOLL nor X shows on the page, but a
+ * set in which one of them is outside its range is impossible here too.
+ *   curves  read only.
+ *   buffer  where accepted, holds the page; bytes after the page are as before.
+ * Refusals: 1, 14. On a refusal buffer is as before. */
+struct ordc_refusal ordc_write_page(const int64_t curves[ORDC_CURVES], uint8_t *buffer, size_t size);
 
 /* Prices a snapshot on a curve set.
  *   curves  read only.

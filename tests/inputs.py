@@ -1,6 +1,7 @@
-"""Inputs of the programs `curves` and `price`: at the edges of their rules, longer than one read, and damaged."""
+"""Inputs of the programs `curves`, `price` and `page`: at the edges of their rules, longer than one read, and damaged."""
 
 LIMIT = 65536  # the most bytes of an hour, of a settle line and of an input of `price`; `curves` also reads so many at once
+PAGE_LIMIT = 4096  # the most bytes of an input of `page`, which is a curve text
 
 
 def hour(month, clock, runs, rng):
@@ -101,10 +102,58 @@ def price_whole(rng):
     yield "many bytes behind the listing", whole + b"x" * (3 * LIMIT)
     yield "one nclr", (CURVES + "\n" + snapshot(["id=L kind=nclr rrsok=1 net=10 lpc=0 rrs=3"])).encode()
     for _ in range(200):
-        damaged = bytearray(whole)
-        for _ in range(rng.randrange(1, 4)):
-            damaged[rng.randrange(len(damaged))] = rng.choice(b"0123456789-=\nABz")
-        yield "damaged", bytes(damaged)
+        yield "damaged", damaged(whole, rng)
+
+
+def damaged(text, rng):
+    """The text with one to three bytes replaced."""
+    text = bytearray(text)
+    for _ in range(rng.randrange(1, 4)):
+        text[rng.randrange(len(text))] = rng.choice(b"0123456789-=\nABz")
+    return bytes(text)
+
+
+def curve_text(pairs):
+    """A curve text with these means and spreads."""
+    return ("voll=900000\nfloor=2000000\n" + "".join(f"mu={mean}\nsigma={spread}\n" for mean, spread in pairs)).encode()
+
+
+# Every group with its own pair: the widest numbers, probabilities of 1 and of 0, and many between.
+MIXED = curve_text([(-20000000, 20000000), (20000000, 1), (-20000000, 1), (0, 1)] + [(500000 * place - 3000000, 900000 + place) for place in range(20)])
+
+
+def lengthened(text, length):
+    """A text and ones that make it so long. No right text is longer than 700 bytes, so that a longer one is always refused: up to the limit for
+    what stands in it, and above the limit for its length. That tells whether the byte above the limit was seen."""
+    return text + b"1" * (length - len(text))
+
+
+def page_whole(rng):
+    """Inputs of `page`, each with a name."""
+    yield "the mixed curves", MIXED
+    yield "equal pairs", CURVES.encode()
+    yield "the shortest text", b"voll=0\nfloor=0\n" + b"mu=0\nsigma=1\n" * 24
+    yield "the longest text", b"voll=2000000\nfloor=20000000\n" + b"mu=-20000000\nsigma=20000000\n" * 24
+    for number in range(20):
+        yield f"pairs at random {number}", curve_text([(rng.randrange(-3000000, 6000000), rng.randrange(1, 3000000)) for _ in range(24)])
+    for cut in range(len(MIXED)):
+        yield f"cut at byte {cut}", MIXED[:cut]
+    for length in (PAGE_LIMIT - 1, PAGE_LIMIT, PAGE_LIMIT + 1, PAGE_LIMIT + 2, 2 * PAGE_LIMIT, LIMIT + 1, 3 * LIMIT):
+        yield f"a right text and more, {length} bytes in all", lengthened(MIXED, length)
+        yield f"a number that never ends, {length} bytes", lengthened(b"voll=", length)
+        yield f"{length} empty lines", b"\n" * length
+    for length in (PAGE_LIMIT, PAGE_LIMIT + 1):
+        yield f"a number's line of {length} bytes", lengthened(b"voll=", length - 1) + b"\n"
+    for old, new in ((b"voll=900000", b"voll=2000001"), (b"voll=900000", b"voll=-1"), (b"floor=2000000", b"floor="), (b"floor=2000000", b"floor=20000001"), (b"mu=-20000000", b"mu=-20000001"), (b"mu=0\nsigma=1\n", b"mu=0\nsigma=0\n"), (b"mu=0", b"mu=-0"), (b"sigma=20000000", b"sigma=20000001"), (b"sigma=900019", b"sigma=+1"), (b"sigma=900019", b"mu=1")):
+        yield f"{old!r} as {new!r}", MIXED.replace(old, new, 1)
+    yield "an empty line after the text", MIXED + b"\n"
+    yield "an empty line before the text", b"\n" + MIXED
+    yield "an empty line in the text", MIXED.replace(b"mu=0\n", b"\nmu=0\n", 1)
+    yield "the text twice", MIXED * 2
+    yield "an input of `price`", LISTING
+    yield "lines that end in bytes 13 and 10", MIXED.replace(b"\n", b"\r\n")
+    for _ in range(200):
+        yield "damaged", damaged(MIXED, rng)
 
 
 def cut_at_random(data, most, rng):
@@ -157,6 +206,24 @@ def price_in_parts(rng):
     yield "cut after the empty line", [LISTING[: half + 1], LISTING[half + 1 :]]
 
 
+def page_in_parts(rng):
+    """Inputs of `page` in parts, each with a name."""
+    yield "the mixed curves, a byte at a time", cut_every(MIXED, 1)
+    yield "the mixed curves, refused, a byte at a time", cut_every(MIXED.replace(b"sigma=900019", b"sigma="), 1)
+    for place in ("inside a key", "before a byte 10", "after a byte 10"):
+        half = MIXED.index(b"\nmu=", len(MIXED) // 2) + {"inside a key": 2, "before a byte 10": 0, "after a byte 10": 1}[place]
+        yield f"the mixed curves in two parts, cut {place}", [MIXED[:half], MIXED[half:]]
+    yield "all but the last byte at once", [MIXED[:-1], MIXED[-1:]]
+    yield "an empty line by itself", [MIXED, b"\n"]
+    for length in (PAGE_LIMIT - 1, PAGE_LIMIT, PAGE_LIMIT + 1):
+        text = lengthened(MIXED, length)
+        yield f"{length} bytes, all but the last at once", [text[:-1], text[-1:]]
+        yield f"{length} bytes, 512 at a time", cut_every(text, 512)
+        for most in (30, 1000):
+            yield f"{length} bytes, 1 to {most} at a time", cut_at_random(text, most, rng)
+    yield "many more bytes, 1000 at a time", cut_every(lengthened(MIXED, LIMIT), 1000)
+
+
 def curves_failing(rng):
     """Inputs of `curves` after which a read fails, each with a name and whether the program gets to that read."""
     long = history(12, 4, rng)  # half of it settles too
@@ -181,6 +248,17 @@ def price_failing(rng):
     yield "too long before the read that fails", longest(LIMIT + 1), False
 
 
-WHOLE = {"curves": curves_whole, "price": price_whole}
-IN_PARTS = {"curves": curves_in_parts, "price": price_in_parts}
-FAILING = {"curves": curves_failing, "price": price_failing}
+def page_failing(rng):
+    """Inputs of `page` after which a read fails, each with a name and whether the program gets to that read."""
+    yield "no bytes", b"", True
+    yield "the mixed curves", MIXED, True
+    yield "half of the lines", MIXED[: MIXED.index(b"mu=", len(MIXED) // 2)], True
+    yield "all but the last byte", MIXED[:-1], True
+    yield "a text that is refused", MIXED.replace(b"voll=", b"x", 1), True
+    yield "4096 bytes", lengthened(MIXED, PAGE_LIMIT), True
+    yield "too long before the read that fails", lengthened(MIXED, PAGE_LIMIT + 1), False
+
+
+WHOLE = {"curves": curves_whole, "price": price_whole, "page": page_whole}
+IN_PARTS = {"curves": curves_in_parts, "price": price_in_parts, "page": page_in_parts}
+FAILING = {"curves": curves_failing, "price": price_failing, "page": page_failing}

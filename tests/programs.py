@@ -1,5 +1,5 @@
 #!/usr/bin/env python3
-"""Runs the programs `curves` and `price` beside the second implementation.
+"""Runs the programs `curves`, `price` and `page` beside the second implementation.
 
 usage: programs.py DIRECTORY REFERENCE
 DIRECTORY holds the built programs, REFERENCE is the second implementation's command. Both get the same standard input, at once and in parts,
@@ -29,7 +29,7 @@ def peak(command, data):
 def main():
     directory, reference = sys.argv[1:3]
     count, wrong = 0, 0
-    for program in ("curves", "price"):
+    for program in ("curves", "price", "page"):
         command = os.path.join(directory, program)
         if not os.path.exists(command):
             sys.exit(f"{command} is not built")

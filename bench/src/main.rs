@@ -72,7 +72,7 @@ fn price(curves: &ordc::CurveSet, plain: &reference::CurveSet, count: u64, ids: 
     );
 }
 
-/// Booking, and what follows from the booked hours: settling, and the texts of the settled curves.
+/// Booking, and what follows from the booked hours: settling, and the texts and pages of the settled curves.
 fn history() {
     let hours = inputs::hours(HOURS);
     row(
@@ -131,6 +131,33 @@ fn history() {
         &expected,
         |curves| curves.write_text(&mut buffer),
         |curves| reference::write_curves(curves, &mut space),
+    );
+    pages(&settled, &expected);
+}
+
+/// Pages of curves whose probabilities lie between 0 and 1, so that N is evaluated for each of them.
+fn pages(settled: &[ordc::CurveSet], expected: &[reference::CurveSet]) {
+    let (mut ours, mut theirs) = ([0; ordc::PAGE], [0; reference::PAGE_LENGTH]);
+    let mut texts = Vec::new();
+    for (set, curves) in settled.iter().zip(expected) {
+        set.write_page(&mut ours).expect("the curves are accepted");
+        reference::write_page(curves, &mut theirs).expect("the curves are accepted");
+        assert_eq!(ours, theirs);
+        for (mu, sigma) in curves.pairs {
+            let least = reference::pi_ns(4_000_000, 0, mu, sigma);
+            let most = reference::pi_ns(1_000_000, 0, mu, sigma);
+            assert!(0 < least && most < reference::BILLION, "N is looked up");
+        }
+        texts.push(ours.to_vec());
+    }
+    row(
+        "write page",
+        SHORT,
+        &texts,
+        settled,
+        expected,
+        |curves| curves.write_page(&mut ours),
+        |curves| reference::write_page(curves, &mut theirs),
     );
 }
 

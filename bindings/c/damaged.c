@@ -1,6 +1,6 @@
 /* Hands damaged texts to every function, each text in a block of exactly its size, so that a memory checker sees any
  * byte that is touched beyond it. Checks that a refusal leaves what was lent, and that its number is one that the
- * function can give. */
+ * function can give. Pages are written to blocks of exactly the size that is named, from possible and impossible sets. */
 #include "ordc.h"
 
 #include <stdio.h>
@@ -72,6 +72,75 @@ static void check(const char *what, struct ordc_refusal refusal, const char *num
     }
 }
 
+/* A number outside the range of this place of a curve set. */
+static int64_t outside(size_t place)
+{
+    int64_t lowest = place < 2 ? 0 : place % 2 == 0 ? -20000000 : 1;
+    int64_t highest = place == 0 ? 2000000 : 20000000;
+    int64_t numbers[] = {lowest - 1, highest + 1, INT64_MIN, INT64_MAX};
+    return numbers[below(4)];
+}
+
+/* Each row has its season, its block and six well-written numbers, all in their columns. */
+static void check_rows(const uint8_t *page)
+{
+    static const char *const SEASONS[] = {"winter ", "spring ", "summer ", "fall   "};
+    static const int WIDTHS[] = {1, 9, 8, 10, 10, 10, 10};
+    for (int group = 0; group < ORDC_GROUPS; group++) {
+        const uint8_t *at = page + 72 * group;
+        int wrong = memcmp(at, SEASONS[group / 6], 7) != 0 || at[7] != '0' + group % 6;
+        at += 7;
+        for (int column = 0; column < 7; column++) {
+            int width = WIDTHS[column], i = 0;
+            while (i < width - 1 && at[i] == ' ') {
+                i++;
+            }
+            int sign = column == 1 && i < width - 1 && at[i] == '-';
+            i += sign;
+            wrong |= at[i] == '0' && (sign || i < width - 1); /* no zero in front, and no -0 */
+            for (; i < width; i++) {
+                wrong |= at[i] < '0' || at[i] > '9';
+            }
+            wrong |= at[width] != (column == 6 ? '\n' : ' ');
+            at += width + 1;
+        }
+        if (wrong) {
+            fprintf(stderr, "page: row %d is %.72s\n", group, (const char *)page + 72 * group);
+            exit(EXIT_FAILURE);
+        }
+    }
+}
+
+/* Writes a page to a block of so many bytes, or to a null pointer; the answer must have this number. */
+static void page(const int64_t set[ORDC_CURVES], size_t size, int null, uint64_t number)
+{
+    enum { MARK = 0xa5 };
+    int64_t *lent = malloc(ORDC_CURVES * sizeof *lent);
+    uint8_t *buffer = null ? NULL : malloc(size);
+    if (lent == NULL || (buffer == NULL && size > 0)) {
+        exit(EXIT_FAILURE);
+    }
+    memcpy(lent, set, ORDC_CURVES * sizeof *lent);
+    if (size > 0) {
+        memset(buffer, MARK, size);
+    }
+    struct ordc_refusal refusal = ordc_write_page(lent, buffer, size);
+    size_t written = refusal.number == ORDC_ACCEPTED ? ORDC_PAGE : 0;
+    int wrong = refusal.number != number || refusal.line != 0 || written > size || memcmp(lent, set, ORDC_CURVES * sizeof *lent) != 0;
+    for (size_t i = written; i < size; i++) {
+        wrong |= buffer[i] != MARK;
+    }
+    if (wrong) {
+        fprintf(stderr, "page of %u bytes: number %u, line %u\n", (unsigned)size, (unsigned)refusal.number, (unsigned)refusal.line);
+        exit(EXIT_FAILURE);
+    }
+    if (written > 0) {
+        check_rows(buffer);
+    }
+    free(buffer);
+    free(lent);
+}
+
 int main(int count, char **arguments)
 {
     long turns = count > 1 ? atol(arguments[1]) : 2000;
@@ -109,7 +178,19 @@ int main(int count, char **arguments)
         accepted += refusal.number == ORDC_ACCEPTED;
         free(text);
 
-        size_t size = below(800), written = 77;
+        static const size_t SIZES[] = {0, 0, 1, ORDC_PAGE - 1, ORDC_PAGE, ORDC_PAGE + 1};
+        size_t choice = (size_t)turn % 7, size = choice < 6 ? SIZES[choice] : below(2 * ORDC_PAGE);
+        int64_t shown[ORDC_CURVES];
+        memcpy(shown, set, sizeof shown);
+        size_t group = below(ORDC_GROUPS), place = below(ORDC_CURVES);
+        shown[2 + 2 * group] = (int64_t)below(40000001) - 20000000;
+        shown[3 + 2 * group] = (int64_t)below(20000000) + 1;
+        page(shown, size, choice == 0, size < ORDC_PAGE ? ORDC_BUFFER_SHORT : ORDC_ACCEPTED);
+        shown[place] = outside(place);
+        page(shown, size, choice == 0, ORDC_IMPOSSIBLE_VALUES);
+
+        size = below(800);
+        size_t written = 77;
         uint8_t *buffer = calloc(size + 1, 1), *blank = calloc(size + 1, 1);
         if (buffer == NULL || blank == NULL) {
             return EXIT_FAILURE;

@@ -1,4 +1,4 @@
-/* Books hours, settles them, writes and reads the curve text, then prices a snapshot. */
+/* Books hours, settles them, writes and reads the curve text, then prices a snapshot and prints the page of its curves. */
 #include "ordc.h"
 
 #include <inttypes.h>
@@ -39,6 +39,23 @@ static const char SNAPSHOT[] =
     "id=B\nkind=gen\nstatus=ON\nnet=95000\nlsl=100000\nhsl=1000000\nbase=93000\nnonspin=0\ncold30=0\n"
     "id=C\nkind=gen\nstatus=OFFNS\nnet=0\nlsl=0\nhsl=293000\nbase=0\nnonspin=0\ncold30=0\n";
 
+/* The page of the listing's curves. With mean 0 and spread 1000000 the four reserves lie 100, 200, 300 and 400 hundredths
+ * of a spread above X. There the normal table has 841344746, 977249868, 998650102 and 999968329, and the probability is
+ * what is left to 1000000000. */
+static void expect_listing(const uint8_t page[ORDC_PAGE])
+{
+    static const char *const SEASONS[] = {"winter", "spring", "summer", "fall  "};
+    for (int group = 0; group < ORDC_GROUPS; group++) {
+        char row[128];
+        int length = snprintf(row, sizeof row, "%s %d         0  1000000  158655254   22750132    1349898      31671\n",
+                              SEASONS[group / 6], group % 6);
+        if (length != ORDC_PAGE / ORDC_GROUPS || memcmp(page + length * group, row, (size_t)length) != 0) {
+            fprintf(stderr, "row %d of the page is another one\n", group);
+            exit(EXIT_FAILURE);
+        }
+    }
+}
+
 int main(void)
 {
     int64_t record[ORDC_RECORD] = {0};
@@ -46,6 +63,7 @@ int main(void)
     int64_t again[ORDC_CURVES];
     int64_t answer[ORDC_ANSWER];
     uint8_t text[ORDC_CURVE_TEXT];
+    uint8_t page[ORDC_PAGE];
     size_t length = 0;
 
     /* The errors -1 and 2 in each group: mean 0, spread 1. */
@@ -68,6 +86,7 @@ int main(void)
     /* What a refusal looks like: no line at all, a buffer of no bytes, a record that no hours give. */
     expect_refused("empty text", ordc_read_curves(NULL, 0, again), ORDC_LINE_ABSENT, 1);
     expect_refused("short buffer", ordc_write_curves(curves, text, 0, &length), ORDC_BUFFER_SHORT, 0);
+    expect_refused("no buffer", ordc_write_page(curves, NULL, 0), ORDC_BUFFER_SHORT, 0);
     record[0] = -1;
     expect_refused("impossible record", ordc_settle(record, 900000, 2000000, again), ORDC_IMPOSSIBLE_VALUES, 0);
     if (memcmp(curves, again, sizeof curves) != 0) {
@@ -83,5 +102,9 @@ int main(void)
     expect_accepted("price", ordc_price(curves, (const uint8_t *)SNAPSHOT, sizeof SNAPSHOT - 1, answer));
     printf("rs=%" PRId64 "\nrsns=%" PRId64 "\npis=%" PRId64 "\npins=%" PRId64 "\nonline=%" PRId64 "\noffline=%" PRId64 "\n",
            answer[ORDC_RS], answer[ORDC_RSNS], answer[ORDC_PIS], answer[ORDC_PINS], answer[ORDC_ONLINE], answer[ORDC_OFFLINE]);
+
+    expect_accepted("page", ordc_write_page(curves, page, sizeof page));
+    expect_listing(page);
+    fwrite(page, 1, sizeof page, stdout);
     return EXIT_SUCCESS;
 }

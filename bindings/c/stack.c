@@ -15,6 +15,9 @@ enum { MARK = 0xa5 };
 static int64_t record[ORDC_RECORD], curves[ORDC_CURVES], answer[ORDC_ANSWER];
 static uint8_t written[ORDC_CURVE_TEXT];
 static size_t written_length;
+static uint8_t page[ORDC_PAGE + 1];
+static uint8_t *page_buffer;
+static size_t page_size;
 static char text[1 << 20];
 static size_t length;
 static struct ordc_refusal refusal;
@@ -84,6 +87,12 @@ static void *read_curves(void *none)
     return none;
 }
 
+static void *write_page(void *none)
+{
+    refusal = ordc_write_page(curves, page_buffer, page_size);
+    return none;
+}
+
 static void *price(void *none)
 {
     refusal = ordc_price(curves, (const uint8_t *)text, length, answer);
@@ -98,13 +107,13 @@ static void expect(int holds, const char *what)
     }
 }
 
-/* Runs a call in a thread of ORDC_STACK bytes, which lie above a page that nobody may touch, and counts the bytes that were written to. */
+/* Runs a call in a thread of ORDC_STACK bytes, which lie above memory that nobody may touch, and counts the bytes that were written to. */
 static size_t used(void *(*call)(void *))
 {
-    size_t page = (size_t)sysconf(_SC_PAGESIZE);
-    uint8_t *area = mmap(NULL, page + ORDC_STACK, PROT_READ | PROT_WRITE, MAP_PRIVATE | MAP_ANONYMOUS, -1, 0);
-    expect(area != MAP_FAILED && mprotect(area, page, PROT_NONE) == 0, "no memory");
-    uint8_t *stack = area + page;
+    size_t guard = (size_t)sysconf(_SC_PAGESIZE);
+    uint8_t *area = mmap(NULL, guard + ORDC_STACK, PROT_READ | PROT_WRITE, MAP_PRIVATE | MAP_ANONYMOUS, -1, 0);
+    expect(area != MAP_FAILED && mprotect(area, guard, PROT_NONE) == 0, "no memory");
+    uint8_t *stack = area + guard;
     memset(stack, MARK, ORDC_STACK);
     pthread_attr_t attributes;
     pthread_t thread;
@@ -114,7 +123,7 @@ static size_t used(void *(*call)(void *))
     while (left < ORDC_STACK && stack[left] == MARK) {
         left++;
     }
-    munmap(area, page + ORDC_STACK);
+    munmap(area, guard + ORDC_STACK);
     return ORDC_STACK - left;
 }
 
@@ -127,6 +136,19 @@ static void try_call(const char *what, void *(*call)(void *), uint64_t number)
     expect(refusal.number == number, what);
     printf("%-40s%8zu bytes\n", what, bytes);
     most = bytes > most ? bytes : most;
+}
+
+/* Pages of the curves to a null pointer and to buffers of no bytes, too few, enough and more. */
+static void pages(int possible)
+{
+    static const size_t SIZES[] = {0, 0, 1, ORDC_PAGE - 1, ORDC_PAGE, ORDC_PAGE + 1};
+    for (size_t i = 0; i < sizeof SIZES / sizeof SIZES[0]; i++) {
+        char what[64];
+        page_buffer = i == 0 ? NULL : page;
+        page_size = SIZES[i];
+        snprintf(what, sizeof what, "write page%s, size %zu%s", possible ? "" : ", impossible", page_size, i == 0 ? ", null" : "");
+        try_call(what, write_page, !possible ? ORDC_IMPOSSIBLE_VALUES : page_size < ORDC_PAGE ? ORDC_BUFFER_SHORT : ORDC_ACCEPTED);
+    }
 }
 
 int main(void)
@@ -145,6 +167,14 @@ int main(void)
     }
     try_call("settle", settle, ORDC_ACCEPTED);
     try_call("write curves", write_curves, ORDC_ACCEPTED);
+    /* means on both sides of the reserves, and probabilities between the knots of the normal table */
+    for (int group = 0; group < ORDC_GROUPS; group++) {
+        curves[2 + 2 * group] = 1000003 * group - 10000000;
+        curves[3 + 2 * group] = 1124667;
+    }
+    pages(1);
+    curves[ORDC_CURVES - 1] = 0;
+    pages(0);
     try_call("read curves", read_curves, ORDC_ACCEPTED);
     snapshot(3);
     try_call("price, 3 resources", price, ORDC_ACCEPTED);

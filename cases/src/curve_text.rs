@@ -4,7 +4,8 @@ use crate::texts::*;
 use crate::{Case, Input, Random, Text};
 use reference::{write_curves, CurveSet, GROUPS, WRITTEN_LIMIT};
 
-const READ_LIMIT: usize = 4096;
+/// The most bytes of a curve text that is read.
+pub const READ_LIMIT: usize = 4096;
 
 pub fn add(cases: &mut Vec<Case>, random: &mut Random) {
     damaged_texts(cases);
@@ -27,7 +28,8 @@ pub fn curve_lines(curves: &CurveSet) -> Lines {
     lines
 }
 
-fn due(at: usize) -> Due {
+/// What each line may hold.
+pub fn due(at: usize) -> Due {
     match at {
         1 => Due::Number(0, 2_000_000),
         2 => Due::Number(0, 20_000_000),
@@ -41,11 +43,11 @@ fn read(text: impl Into<Text>) -> Input {
 }
 
 /// The curve sets with the shortest and the longest text.
-fn shortest() -> CurveSet {
+pub fn shortest() -> CurveSet {
     curves_of(0, 0, 0, 1)
 }
 
-fn longest() -> CurveSet {
+pub fn longest() -> CurveSet {
     curves_of(2_000_000, 20_000_000, -20_000_000, 20_000_000)
 }
 
@@ -123,21 +125,25 @@ fn text_length(curves: &CurveSet) -> usize {
     write_curves(curves, &mut buffer).expect("the set is possible and the buffer long")
 }
 
-fn written(cases: &mut Vec<Case>) {
+/// A curve set whose pairs have numbers of every length.
+pub fn mixed() -> CurveSet {
     let mut pairs = [(0, 1); GROUPS];
     for (place, pair) in pairs.iter_mut().enumerate() {
         let size = 10_i64.pow(place as u32 % 8);
         *pair = (if place % 2 == 0 { size } else { -size }, size + 9);
     }
-    let mixed = CurveSet {
+    CurveSet {
         voll: 900_000,
         floor: 2_000_000,
         pairs,
-    };
+    }
+}
+
+fn written(cases: &mut Vec<Case>) {
     for (name, curves) in [
         ("shortest", shortest()),
         ("longest", longest()),
-        ("mixed", mixed),
+        ("mixed", mixed()),
     ] {
         let fits = text_length(&curves);
         for length in [
@@ -178,7 +184,8 @@ fn written(cases: &mut Vec<Case>) {
     }
 }
 
-fn impossible(cases: &mut Vec<Case>) {
+/// Curve sets with one number outside its range: by one, and by far.
+pub fn impossible_sets() -> Vec<(String, CurveSet)> {
     let good = curves_of(900_000, 2_000_000, 0, 1000);
     let mut sets = Vec::new();
     for voll in [-1, 2_000_001, i64::MAX, -i64::MAX] {
@@ -204,7 +211,11 @@ fn impossible(cases: &mut Vec<Case>) {
             sets.push((format!("pair {at} is {mu} and {sigma}"), curves));
         }
     }
-    for (label, curves) in sets {
+    sets
+}
+
+fn impossible(cases: &mut Vec<Case>) {
+    for (label, curves) in impossible_sets() {
         let write = |length| Input::Write { curves, length };
         cases.case(label.clone(), write(1024));
         cases.case(format!("1 comes before 14: {label}"), write(0));

@@ -1,6 +1,6 @@
 //! How cases are written down, and a reader of it.
 
-use crate::{buffer_byte, curve_numbers, record_numbers, Case, Input, Text};
+use crate::{buffer, curve_numbers, record_numbers, Case, Input, Text};
 use reference::{CurveSet, Group, Record, GROUPS};
 
 /// The numbers of the operations.
@@ -11,6 +11,8 @@ const WRITE: i64 = 3;
 const PRICE: i64 = 4;
 const PRICE_PROGRAM: i64 = 5;
 const CURVES_PROGRAM: i64 = 6;
+const WRITE_PAGE: i64 = 7;
+const PAGE_PROGRAM: i64 = 8;
 
 /// Equal bytes at the end of a text that are written down once.
 const LONG_RUN: usize = 24;
@@ -55,21 +57,27 @@ impl Writer {
                 self.numbers(&[*voll, *floor]);
             }
             Input::Read { text } => self.text(text.bytes(), READ),
-            Input::Write { curves, length } => {
-                self.text((0..*length).map(buffer_byte).collect(), WRITE);
-                self.numbers(&curve_numbers(curves));
-                self.held.clear();
-            }
+            Input::Write { curves, length } => self.written(curves, *length, WRITE),
+            Input::WritePage { curves, length } => self.written(curves, *length, WRITE_PAGE),
             Input::Price { curves, text } => {
                 self.text(text.bytes(), PRICE);
                 self.numbers(&curve_numbers(curves));
             }
             Input::PriceProgram { text } => self.text(text.bytes(), PRICE_PROGRAM),
+            Input::PageProgram { text } => self.text(text.bytes(), PAGE_PROGRAM),
             Input::CurvesProgram { text, first } => {
                 self.text(text.bytes(), CURVES_PROGRAM);
                 self.numbers(&[*first as i64]);
             }
         }
+    }
+
+    /// A writing, whose buffer is the text; what stands there after it is not
+    /// known here.
+    fn written(&mut self, curves: &CurveSet, length: usize, operation: i64) {
+        self.text(buffer(length), operation);
+        self.numbers(&curve_numbers(curves));
+        self.held.clear();
     }
 
     /// A text, and the number of the operation on it.
@@ -162,6 +170,11 @@ impl<'a> Reader<'a> {
                 text,
             },
             PRICE_PROGRAM => Input::PriceProgram { text },
+            PAGE_PROGRAM => Input::PageProgram { text },
+            WRITE_PAGE => Input::WritePage {
+                curves: self.curves()?,
+                length,
+            },
             CURVES_PROGRAM => Input::CurvesProgram {
                 text,
                 first: self.number()? as usize,

@@ -5,6 +5,7 @@
 mod book;
 mod curve_text;
 mod format;
+mod page;
 mod price;
 mod programs;
 mod settle;
@@ -14,8 +15,8 @@ pub use format::{decode, encode};
 pub use random::Random;
 
 use reference::{
-    book, price_snapshot, read_curves, run_curves, run_price, settle, write_curves, CurveSet,
-    Record, Refusal,
+    book, price_snapshot, read_curves, run_curves, run_page, run_price, settle, write_curves,
+    write_page, CurveSet, Record, Refusal,
 };
 use std::collections::BTreeMap;
 
@@ -93,6 +94,14 @@ pub enum Input {
         text: Text,
         first: usize,
     },
+    WritePage {
+        curves: CurveSet,
+        length: usize,
+    },
+    /// The program `page` on an input.
+    PageProgram {
+        text: Text,
+    },
 }
 
 impl Input {
@@ -105,6 +114,8 @@ impl Input {
             Input::Price { .. } => 'P',
             Input::PriceProgram { .. } => 'p',
             Input::CurvesProgram { .. } => 'c',
+            Input::WritePage { .. } => 'G',
+            Input::PageProgram { .. } => 'g',
         }
     }
 }
@@ -156,9 +167,9 @@ impl Answer {
     }
 }
 
-/// The byte at each place of a buffer before anything is written to it.
-pub fn buffer_byte(place: usize) -> u8 {
-    (place % 251) as u8
+/// A buffer before anything is written to it.
+pub fn buffer(length: usize) -> Vec<u8> {
+    (0..length).map(|place| (place % 251) as u8).collect()
 }
 
 /// A checksum that needs no number above 300 000 000 000.
@@ -202,7 +213,7 @@ pub fn answer(input: &Input) -> Answer {
         } => settle(record, *voll, *floor).map_or_else(refused(50), curves_answer),
         Input::Read { text } => read_curves(&text.bytes()).map_or_else(refused(50), curves_answer),
         Input::Write { curves, length } => {
-            let mut buffer: Vec<u8> = (0..*length).map(buffer_byte).collect();
+            let mut buffer = buffer(*length);
             match write_curves(curves, &mut buffer) {
                 Ok(written) => Answer::Accepted(vec![written as i64, checksum(&buffer)]),
                 Err(refusal) => Answer::Refused(refusal, vec![LENT, checksum(&buffer)]),
@@ -221,6 +232,14 @@ pub fn answer(input: &Input) -> Answer {
         },
         Input::PriceProgram { text } => printed(run_price(&text.bytes())),
         Input::CurvesProgram { text, .. } => printed(run_curves(&text.bytes())),
+        Input::WritePage { curves, length } => {
+            let mut buffer = buffer(*length);
+            match write_page(curves, &mut buffer) {
+                Ok(_) => Answer::Accepted(vec![checksum(&buffer)]),
+                Err(refusal) => Answer::Refused(refusal, vec![checksum(&buffer)]),
+            }
+        }
+        Input::PageProgram { text } => printed(run_page(&text.bytes())),
     }
 }
 
@@ -241,11 +260,12 @@ pub fn all_cases(seed: u64) -> Vec<Case> {
     curve_text::add(&mut cases, &mut random);
     price::add(&mut cases, &mut random);
     programs::add(&mut cases, &mut random);
+    page::add(&mut cases, &mut random);
     cases
 }
 
 /// The refusal numbers that each operation can give.
-pub const CAN_REFUSE: [(char, &[u32]); 7] = [
+pub const CAN_REFUSE: [(char, &[u32]); 9] = [
     ('B', &[1, 2, 3, 4, 5, 6, 7, 9, 10, 11]),
     ('S', &[1, 7, 12, 13]),
     ('R', &[2, 3, 4, 5, 6, 7, 9]),
@@ -253,6 +273,8 @@ pub const CAN_REFUSE: [(char, &[u32]); 7] = [
     ('P', &[1, 2, 3, 4, 5, 6, 7, 8, 9]),
     ('p', &[2, 3, 4, 5, 6, 7, 8, 9]),
     ('c', &[2, 3, 4, 5, 6, 7, 9, 10, 11, 12, 13]),
+    ('G', &[1, 14]),
+    ('g', &[2, 3, 4, 5, 6, 7, 9]),
 ];
 
 /// How often each answer came: by operation and refusal number, 0 standing

@@ -1,4 +1,4 @@
-//! Cases of the two programs: what each prints of an input.
+//! Cases of the programs `curves` and `price`: what each prints of an input.
 
 use crate::book::{hour_lines, hour_with_error};
 use crate::curve_text::curve_lines;

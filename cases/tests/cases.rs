@@ -1,24 +1,33 @@
 //! The cases as a whole: that they can be read back, and what they cover.
 
 use cases::{
-    all_cases, answer, checksum, decode, encode, tally, Answer, Case, Input, Text, CAN_REFUSE,
+    all_cases, answer, buffer, checksum, decode, encode, tally, Answer, Case, Input, Text,
+    CAN_REFUSE,
 };
-use reference::Refusal;
+use reference::{write_page, Refusal};
 use std::collections::BTreeSet;
 
 fn answers(cases: &[Case]) -> Vec<Answer> {
     cases.iter().map(|case| answer(&case.input)).collect()
 }
 
+/// The input's text, where it has one of its own.
+fn text_of(input: &mut Input) -> Option<&mut Text> {
+    match input {
+        Input::Book { text, .. }
+        | Input::Read { text }
+        | Input::Price { text, .. }
+        | Input::PriceProgram { text }
+        | Input::CurvesProgram { text, .. }
+        | Input::PageProgram { text } => Some(text),
+        Input::Settle { .. } | Input::Write { .. } | Input::WritePage { .. } => None,
+    }
+}
+
 /// The input with its text as one piece.
 fn in_one_piece(input: &Input) -> Input {
     let mut input = input.clone();
-    if let Input::Book { text, .. }
-    | Input::Read { text }
-    | Input::Price { text, .. }
-    | Input::PriceProgram { text }
-    | Input::CurvesProgram { text, .. } = &mut input
-    {
+    if let Some(text) = text_of(&mut input) {
         *text = Text::from(text.bytes());
     }
     input
@@ -45,12 +54,7 @@ fn there_are_enough_cases_and_they_are_small() {
     let answers: usize = answers(&cases).iter().map(|one| one.line().len() + 1).sum();
     assert!(encode(&cases).len() + answers < 5_000_000);
     for case in &cases {
-        if let Input::Book { text, .. }
-        | Input::Read { text }
-        | Input::Price { text, .. }
-        | Input::PriceProgram { text }
-        | Input::CurvesProgram { text, .. } = &case.input
-        {
+        if let Some(text) = text_of(&mut case.input.clone()) {
             assert!(text.bytes().len() <= 1_048_577, "{}", case.label);
         }
         assert!(!case.label.contains('\n'), "{:?}", case.label);
@@ -69,17 +73,32 @@ fn every_refusal_of_every_operation_comes() {
     assert_eq!(tally.into_keys().collect::<BTreeSet<_>>(), can);
 }
 
+/// The refusal of an answer, given back or printed.
+fn refusal_of(answer: &Answer) -> Option<Refusal> {
+    match answer {
+        Answer::Accepted(_) => None,
+        Answer::Refused(refusal, _) => Some(*refusal),
+        Answer::Printed(lines) => {
+            let mut lines = lines.lines();
+            let mut value = |key| lines.next()?.strip_prefix(key);
+            let (number, line) = (value("refused=")?, value("line=")?);
+            Some(Refusal {
+                number: number.parse().unwrap(),
+                line: line.parse().unwrap(),
+            })
+        }
+    }
+}
+
 #[test]
 fn refusals_come_at_the_first_a_middle_and_the_last_line() {
     let cases = all_cases(1);
     let lines: BTreeSet<(char, u32, u64)> = cases
         .iter()
         .zip(answers(&cases))
-        .filter_map(|(case, answer)| match answer {
-            Answer::Refused(Refusal { number, line }, _) => {
-                Some((case.input.letter(), number, line))
-            }
-            Answer::Accepted(_) | Answer::Printed(_) => None,
+        .filter_map(|(case, answer)| {
+            let Refusal { number, line } = refusal_of(&answer)?;
+            Some((case.input.letter(), number, line))
         })
         .collect();
     for number in 3..=7 {
@@ -87,6 +106,7 @@ fn refusals_come_at_the_first_a_middle_and_the_last_line() {
             ('B', [1, 12, 13, 22, 31, 553]),
             ('R', [1, 2, 3, 24, 49, 50]),
             ('P', [1, 8, 12, 20, 29, 36_872]),
+            ('g', [1, 2, 25, 26, 49, 50]),
         ] {
             for line in places {
                 assert!(
@@ -107,6 +127,10 @@ fn refusals_come_at_the_first_a_middle_and_the_last_line() {
         ('P', 9, 9),
         ('P', 9, 30),
         ('P', 9, 36_873),
+        ('g', 2, 0),
+        ('g', 9, 51),
+        ('G', 1, 0),
+        ('G', 14, 0),
         ('S', 12, 0),
         ('S', 12, 11),
         ('S', 12, 23),
@@ -115,6 +139,116 @@ fn refusals_come_at_the_first_a_middle_and_the_last_line() {
         ('S', 13, 23),
     ] {
         assert!(lines.contains(&place), "{place:?}");
+    }
+}
+
+/// The cells of a page: each row as words.
+fn words(page: &[u8]) -> Vec<Vec<String>> {
+    let rows = String::from_utf8(page.to_vec()).unwrap();
+    rows.lines()
+        .map(|row| row.split_whitespace().map(str::to_string).collect())
+        .collect()
+}
+
+#[test]
+fn pages_show_numbers_of_every_length_and_sign() {
+    let mut found = BTreeSet::new();
+    for case in all_cases(1) {
+        let Input::WritePage { curves, .. } = case.input else {
+            continue;
+        };
+        let mut page = [0; 1728];
+        if write_page(&curves, &mut page).is_err() {
+            continue;
+        }
+        for row in words(&page) {
+            for (place, word) in row.iter().enumerate() {
+                found.insert((place, word.starts_with('-'), word.len()));
+            }
+        }
+    }
+    let lengths = |place, minus| -> Vec<usize> {
+        let of_place = found.iter().filter(|one| (one.0, one.1) == (place, minus));
+        of_place.map(|one| one.2).collect()
+    };
+    assert_eq!(lengths(2, false), [1, 2, 3, 4, 5, 6, 7, 8]);
+    assert_eq!(lengths(2, true), [2, 3, 4, 5, 6, 7, 8, 9]);
+    assert_eq!(lengths(3, false), [1, 2, 3, 4, 5, 6, 7, 8]);
+    // The least probability above 0 has three digits.
+    for place in 4..8 {
+        assert_eq!(lengths(place, false), [1, 3, 4, 5, 6, 7, 8, 9, 10]);
+    }
+}
+
+#[test]
+fn pages_of_the_same_pairs_have_one_answer() {
+    let cases = all_cases(1);
+    let same = cases
+        .iter()
+        .filter(|case| case.label.starts_with("a page of the same pairs, "));
+    let answers: Vec<String> = same.map(|case| answer(&case.input).line()).collect();
+    assert_eq!(answers.len(), 4);
+    assert!(answers.iter().all(|line| *line == answers[0]));
+}
+
+/// The page whose rows differ in their names alone.
+fn page_of(row: &str) -> String {
+    let seasons = ["winter", "spring", "summer", "fall  "];
+    (0..24)
+        .map(|group| format!("{} {} {row}\n", seasons[group / 6], group % 6))
+        .collect()
+}
+
+#[test]
+fn known_pages() {
+    let cases = all_cases(1);
+    let line = |label: &str| {
+        let case = cases.iter().find(|case| case.label == label).unwrap();
+        answer(&case.input).line()
+    };
+    // Mean 0, spread 1000000: one, two, three and four spreads above X.
+    let page = page_of("        0  1000000  158655254   22750132    1349898      31671");
+    assert_eq!(page.len(), 1728);
+    assert_eq!(
+        line("page: mean 0 and spread 1000000"),
+        page.replace('\n', " ")
+    );
+    let written = format!("accepted {}", checksum(page.as_bytes()));
+    assert_eq!(line("a page, VOLL 0"), written);
+    assert_eq!(line("a page, X 20000000"), written);
+    // A refusal leaves the buffer, and an accepted page what stands after it.
+    for (label, refusal, length) in [
+        ("a page, VOLL -1", "refused 1 line 0", 1728),
+        ("a page, 1 comes before 14: VOLL -1", "refused 1 line 0", 0),
+        (
+            "a page of the mixed curves, buffer of 1727",
+            "refused 14 line 0",
+            1727,
+        ),
+    ] {
+        let sum = checksum(&buffer(length));
+        assert_eq!(line(label), format!("{refusal} {sum}"), "{label}");
+    }
+    // With spread 1 and mean 0 every step is far above the curve.
+    let page = page_of("        0        1          0          0          0          0");
+    let longer = [page.as_bytes(), &buffer(1729)[1728..]].concat();
+    assert_eq!(
+        line("a page of the shortest curves, buffer of 1729"),
+        format!("accepted {}", checksum(&longer))
+    );
+    for (label, refused) in [
+        (
+            "page: a right text and ones, 4096 bytes in all",
+            "refused=9 line=51",
+        ),
+        (
+            "page: a right text and ones, 4097 bytes in all",
+            "refused=2 line=0",
+        ),
+        ("page: cut at byte 0", "refused=3 line=1"),
+        ("page: bytes \"\\n\" follow", "refused=9 line=51"),
+    ] {
+        assert_eq!(line(label), format!("{refused} text=curves "), "{label}");
     }
 }
 

@@ -25,6 +25,7 @@ extern "C" {
     /// The answer is rs, rsns, pis, pins, online, offline.
     fn ordc_price(curves: *const i64, text: *const u8, length: usize, answer: *mut i64)
         -> CRefusal;
+    fn ordc_write_page(curves: *const i64, buffer: *mut u8, length: usize) -> CRefusal;
 }
 
 impl From<CRefusal> for Refusal {
@@ -83,5 +84,9 @@ impl Library for Linked {
             )
         }
         .into()
+    }
+
+    fn write_page(&self, curves: &Curves, buffer: &mut [u8]) -> Refusal {
+        unsafe { ordc_write_page(curves.as_ptr(), buffer.as_mut_ptr(), buffer.len()) }.into()
     }
 }

@@ -4,18 +4,19 @@
 use crate::damage::damage;
 use crate::texts::{hour_in_group, snapshot, MOST_POWER};
 use crate::{Curves, Input, Random, RecordNumbers};
-use reference::{read_snapshot, reserves, sums, WRITTEN_LIMIT};
+use reference::{read_snapshot, reserves, sums, PAGE_LENGTH, WRITTEN_LIMIT};
 
 const LARGEST_ERROR: i64 = 20_000_000;
 const MOST_HOURS: i64 = 1000;
 
 /// A random input.
 pub fn input(random: &mut Random) -> Input {
-    match random.bits() % 20 {
+    match random.bits() % 22 {
         0..=5 => book(random),
         6..=8 => settle(random),
         9..=11 => read(random),
         12 | 13 => write(random),
+        14 | 15 => write_page(random),
         _ => price(random),
     }
 }
@@ -230,6 +231,46 @@ fn write(random: &mut Random) -> Input {
         _ => (fits as i64 + random.within(-2, 2)) as usize,
     };
     Input::Write { curves, length }
+}
+
+/// How far above X the probabilities of a page's row stand, in kW.
+const PAGE_STEPS: [i64; 4] = [1_000_000, 2_000_000, 3_000_000, 4_000_000];
+
+/// A curve set in its ranges, mostly with pairs whose probabilities on a page
+/// lie between 0 and 1, or at an end of the curve.
+pub fn page_curves(random: &mut Random) -> Curves {
+    let mut curves = curves(random);
+    for pair in curves[2..].chunks_mut(2) {
+        let sigma = pair[1];
+        let away = match random.bits() % 8 {
+            0 | 1 => continue,
+            2 => random.within(-2, 2),
+            3 => 5 * sigma + random.within(-2, 2),
+            4 => -5 * sigma + random.within(-2, 2),
+            _ => random.within(-6 * sigma, 6 * sigma),
+        };
+        let mu = *random.pick(&PAGE_STEPS) - away;
+        pair[0] = mu.clamp(-20_000_000, 20_000_000);
+    }
+    curves
+}
+
+fn write_page(random: &mut Random) -> Input {
+    let mut curves = page_curves(random);
+    if random.one_in(5) {
+        damage_curves(random, &mut curves);
+    }
+    let length = match random.bits() % 8 {
+        0 => random.within(0, 3),
+        1 => random.within(0, 4096),
+        2 => 72 * random.within(0, 25) + random.within(0, 1),
+        3..=5 => PAGE_LENGTH as i64,
+        _ => PAGE_LENGTH as i64 + random.within(-3, 3),
+    };
+    Input::WritePage {
+        curves,
+        length: length as usize,
+    }
 }
 
 fn price(random: &mut Random) -> Input {

@@ -25,6 +25,10 @@ pub enum Input {
         curves: Curves,
         text: Vec<u8>,
     },
+    WritePage {
+        curves: Curves,
+        length: usize,
+    },
 }
 
 impl Input {
@@ -36,17 +40,21 @@ impl Input {
             Input::Read { .. } => 2,
             Input::Write { .. } => 3,
             Input::Price { .. } => 4,
+            Input::WritePage { .. } => 5,
         }
     }
 }
 
+const OPERATIONS: usize = 6;
+
 /// The operations, with the refusal numbers that each can give.
-pub const CAN_REFUSE: [(&str, &[u64]); 5] = [
+pub const CAN_REFUSE: [(&str, &[u64]); OPERATIONS] = [
     ("book", &[1, 2, 3, 4, 5, 6, 7, 9, 10, 11]),
     ("settle", &[1, 7, 12, 13]),
     ("read_curves", &[2, 3, 4, 5, 6, 7, 9]),
     ("write_curves", &[1, 14]),
     ("price", &[1, 2, 3, 4, 5, 6, 7, 8, 9]),
+    ("write_page", &[1, 14]),
 ];
 
 /// Everything that a call gives back or may have changed.
@@ -62,6 +70,11 @@ pub struct Outcome {
 /// What stands in a lent array before the call: no answer looks like it.
 fn before<const N: usize>() -> [i64; N] {
     std::array::from_fn(|place| -7_000_000_000_000 - place as i64)
+}
+
+/// A buffer before the call: each byte tells its place.
+fn buffer_before(length: usize) -> Vec<u8> {
+    (0..length).map(|place| (place % 251) as u8).collect()
 }
 
 /// Makes the call.
@@ -92,7 +105,7 @@ pub fn run(library: &dyn Library, input: &Input) -> Outcome {
             outcome(refusal, &curves)
         }
         Input::Write { curves, length } => {
-            let mut buffer: Vec<u8> = (0..*length).map(|place| (place % 251) as u8).collect();
+            let mut buffer = buffer_before(*length);
             let [mut written] = before();
             let refusal = library.write_curves(curves, &mut buffer, &mut written);
             Outcome {
@@ -106,6 +119,15 @@ pub fn run(library: &dyn Library, input: &Input) -> Outcome {
             let refusal = library.price(curves, text, &mut answer);
             outcome(refusal, &answer)
         }
+        Input::WritePage { curves, length } => {
+            let mut buffer = buffer_before(*length);
+            let refusal = library.write_page(curves, &mut buffer);
+            Outcome {
+                refusal,
+                numbers: Vec::new(),
+                buffer,
+            }
+        }
     }
 }
 
@@ -113,7 +135,7 @@ pub fn run(library: &dyn Library, input: &Input) -> Outcome {
 /// standing for an acceptance.
 #[derive(Clone, Debug, Default)]
 pub struct Tally {
-    times: [[u64; 15]; 5],
+    times: [[u64; 15]; OPERATIONS],
 }
 
 impl Tally {
@@ -142,7 +164,7 @@ impl Tally {
             }
         }
         for number in 1..=14 {
-            if (0..5).all(|operation| self.times(operation, number) == 0) {
+            if (0..OPERATIONS).all(|operation| self.times(operation, number) == 0) {
                 missing.push(format!("refused {number} of any operation"));
             }
         }
@@ -178,7 +200,8 @@ fn show_groups<const N: usize>(out: &mut String, numbers: &[i64], keys: [&str; N
     }
 }
 
-fn show_curves(out: &mut String, curves: &Curves) {
+/// A curve set, equal pairs in a row said once.
+pub fn show_curves(out: &mut String, curves: &Curves) {
     writeln!(out, "  VOLL {}, X {}", curves[0], curves[1]).unwrap();
     show_groups(out, &curves[2..], ["mu", "sigma"]);
 }
@@ -218,7 +241,7 @@ pub fn show(input: &Input) -> String {
             writeln!(out, "  VOLL {voll}, X {floor}").unwrap();
         }
         Input::Read { text } => out += &show_text(text),
-        Input::Write { curves, length } => {
+        Input::Write { curves, length } | Input::WritePage { curves, length } => {
             show_curves(&mut out, curves);
             writeln!(out, "  buffer of {length} bytes").unwrap();
         }

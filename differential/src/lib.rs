@@ -3,7 +3,8 @@
 //! The library under test stands behind the trait [`Library`]; every answer is
 //! compared with the reference's. An input on which they differ is made as
 //! small as it can be. [`order`] checks, on random pairs of histories and
-//! snapshots, that more reserve never raises a price.
+//! snapshots, that more reserve never raises a price, and [`page`], on random
+//! curve sets, what a reader of a page relies on.
 
 mod damage;
 #[cfg(feature = "ordc")]
@@ -11,6 +12,7 @@ mod ffi;
 mod generate;
 mod input;
 pub mod order;
+pub mod page;
 mod plain;
 mod shrink;
 mod texts;
@@ -18,7 +20,7 @@ mod texts;
 #[cfg(feature = "ordc")]
 pub use ffi::Linked;
 pub use generate::input;
-pub use input::{run, show, show_text, Input, Outcome, Tally, CAN_REFUSE};
+pub use input::{run, show, show_curves, show_text, Input, Outcome, Tally, CAN_REFUSE};
 pub use plain::{curve_set, Plain};
 pub use random::Random;
 pub use shrink::shrink;
@@ -57,4 +59,5 @@ pub trait Library {
     fn read_curves(&self, text: &[u8], curves: &mut Curves) -> Refusal;
     fn write_curves(&self, curves: &Curves, buffer: &mut [u8], written: &mut i64) -> Refusal;
     fn price(&self, curves: &Curves, text: &[u8], answer: &mut Answer) -> Refusal;
+    fn write_page(&self, curves: &Curves, buffer: &mut [u8]) -> Refusal;
 }

@@ -1,22 +1,25 @@
-//! `differential [--seed N] [--inputs N] [--from N] [--pairs N] [--long]`
+//! `differential [--seed N] [--inputs N] [--from N] [--pairs N] [--pages N] [--long]`
 
 use differential::order::{self, Counts, SNAPSHOTS};
-use differential::{input, run, show, shrink, Library, Outcome, Plain, Random, Tally};
+use differential::{input, page, run, show, shrink, Library, Outcome, Plain, Random, Tally};
 use std::process::ExitCode;
 use std::time::{Instant, SystemTime, UNIX_EPOCH};
 
-const USAGE: &str = "usage: differential [--seed N] [--inputs N] [--from N] [--pairs N] [--long]
+const USAGE: &str =
+    "usage: differential [--seed N] [--inputs N] [--from N] [--pairs N] [--pages N] [--long]
   --seed N    the seed; without it one is taken from the clock
   --inputs N  so many inputs (200000)
   --from N    the place of the first input (0)
   --pairs N   so many pairs of histories and snapshots (20000)
-  --long      twenty times as many of both";
+  --pages N   so many pages (5000)
+  --long      twenty times as many of all three";
 
 struct Options {
     seed: u64,
     inputs: u64,
     from: u64,
     pairs: u64,
+    pages: u64,
 }
 
 fn main() -> ExitCode {
@@ -35,7 +38,8 @@ fn main() -> ExitCode {
     );
     let agree = inputs(&library, &options);
     let ordered = pairs(&library, &options);
-    if agree && ordered {
+    let readable = pages(&library, &options);
+    if agree && ordered && readable {
         println!("passed");
         ExitCode::SUCCESS
     } else {
@@ -51,6 +55,7 @@ fn options() -> Option<Options> {
         inputs: 200_000,
         from: 0,
         pairs: 20_000,
+        pages: 5_000,
     };
     let mut arguments = std::env::args().skip(1);
     let mut times = 1;
@@ -64,12 +69,14 @@ fn options() -> Option<Options> {
             "--inputs" => &mut options.inputs,
             "--from" => &mut options.from,
             "--pairs" => &mut options.pairs,
+            "--pages" => &mut options.pages,
             _ => return None,
         };
         *value = arguments.next()?.parse().ok()?;
     }
     options.inputs *= times;
     options.pairs *= times;
+    options.pages *= times;
     Some(options)
 }
 
@@ -110,7 +117,9 @@ fn told(outcome: &Outcome) -> String {
         0 => "accepted".to_string(),
         number => format!("refused {number} line {}", refusal.line),
     };
-    line += &format!(", lent array {:?}", outcome.numbers);
+    if !outcome.numbers.is_empty() {
+        line += &format!(", lent array {:?}", outcome.numbers);
+    }
     if !outcome.buffer.is_empty() {
         line += &format!(", lent buffer \"{}\"", outcome.buffer.escape_ascii());
     }
@@ -163,4 +172,37 @@ fn pairs(library: &dyn Library, options: &Options) -> bool {
         println!("no pair was tight");
     }
     unmatched == 0 && (tight > 0 || options.pairs == 0)
+}
+
+/// Runs the pages; true if nothing is broken and some rows were telling.
+fn pages(library: &dyn Library, options: &Options) -> bool {
+    let start = Instant::now();
+    let mut counts = page::Counts::default();
+    // Its own numbers, whatever the number of inputs and of pairs.
+    let seed = Random::at(options.seed, u64::MAX - 1).bits();
+    for place in 0..options.pages {
+        match page::check(library, &mut Random::at(seed, place)) {
+            Ok(more) => counts.add(&more),
+            Err(broken) => {
+                print!("page {place}: {broken}");
+                return false;
+            }
+        }
+    }
+    let seconds = start.elapsed().as_secs_f64();
+    let page::Counts {
+        pages,
+        rows,
+        falling,
+        apart,
+    } = counts;
+    println!(
+        "{pages} pages in {seconds:.1} s, {falling} of {rows} rows with four different \
+         probabilities; {apart} beside one with another VOLL and X"
+    );
+    let telling = falling > 0 && apart > 0;
+    if options.pages > 0 && !telling {
+        println!("no page was telling");
+    }
+    telling || options.pages == 0
 }

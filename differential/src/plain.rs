@@ -102,4 +102,8 @@ impl Library for Plain {
             },
         )
     }
+
+    fn write_page(&self, curves: &Curves, buffer: &mut [u8]) -> Refusal {
+        take(reference::write_page(&curve_set(curves), buffer), |_| ())
+    }
 }

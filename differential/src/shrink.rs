@@ -3,7 +3,7 @@
 //! The functions below hand smaller inputs, one at a time and the largest
 //! steps first, to `found`, and end with true when it takes one.
 
-use crate::{Input, RecordNumbers};
+use crate::{Curves, Input, RecordNumbers};
 use std::time::{Duration, Instant};
 
 /// No longer than this, so that a slow library still comes to an end.
@@ -63,16 +63,13 @@ fn smaller_inputs(input: &Input, found: &mut dyn FnMut(Input) -> bool) -> bool {
         }
         Input::Read { text } => smaller_texts(text, &mut |text| found(Input::Read { text })),
         Input::Write { curves, length } => {
-            smaller_numbers(curves, &mut |curves| {
-                found(Input::Write {
-                    curves,
-                    length: *length,
-                })
-            }) || smaller_numbers(&[*length as i64], &mut |[length]| {
-                found(Input::Write {
-                    curves: *curves,
-                    length: length as usize,
-                })
+            smaller_writings(curves, *length, &mut |curves, length| {
+                found(Input::Write { curves, length })
+            })
+        }
+        Input::WritePage { curves, length } => {
+            smaller_writings(curves, *length, &mut |curves, length| {
+                found(Input::WritePage { curves, length })
             })
         }
         Input::Price { curves, text } => {
@@ -87,6 +84,18 @@ fn smaller_inputs(input: &Input, found: &mut dyn FnMut(Input) -> bool) -> bool {
             })
         }
     }
+}
+
+/// Each number of the curves made smaller, then the buffer.
+fn smaller_writings(
+    curves: &Curves,
+    length: usize,
+    found: &mut dyn FnMut(Curves, usize) -> bool,
+) -> bool {
+    smaller_numbers(curves, &mut |curves| found(curves, length))
+        || smaller_numbers(&[length as i64], &mut |[length]| {
+            found(*curves, length as usize)
+        })
 }
 
 /// Each group emptied or made the smallest that settles, then each number

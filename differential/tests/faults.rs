@@ -2,7 +2,7 @@
 
 use differential::order::{self, Counts};
 use differential::{
-    input, run, show, shrink, Answer, Curves, Input, Library, Plain, Random, RecordNumbers,
+    input, page, run, show, shrink, Answer, Curves, Input, Library, Plain, Random, RecordNumbers,
     Refusal, Tally,
 };
 
@@ -27,7 +27,32 @@ enum Fault {
     Sigma,
     /// Prices more with more reserve.
     Rising,
+    /// A refused page is begun.
+    PageBegun,
+    /// A page is ended with a byte 0.
+    PageEnded,
+    /// A buffer has to be longer than the page.
+    PageShort,
+    /// 14 comes before 1.
+    PageOrder,
+    /// Names of seasons stand at the right of their cell.
+    PageNames,
+    /// Blocks are counted from 1.
+    PageBlocks,
+    /// Reserves of a page do not stand above X.
+    PageAtX,
+    /// The first two probabilities of a row are swapped.
+    PageRising,
+    /// The last probability of a page is 0 where X is odd.
+    PageOfX,
 }
+
+/// A row with its byte 10, and a page.
+const ROW: usize = 72;
+const PAGE: usize = 24 * ROW;
+
+/// Where the probabilities of a row stand, each with the space before it.
+const PROBABILITIES: [std::ops::Range<usize>; 4] = [27..38, 38..49, 49..60, 60..71];
 
 struct Faulty(Fault);
 
@@ -95,6 +120,53 @@ impl Library for Faulty {
         }
         if self.0 == Fault::Rising && refusal.accepted() {
             answer[4] = answer[0];
+        }
+        refusal
+    }
+
+    fn write_page(&self, curves: &Curves, buffer: &mut [u8]) -> Refusal {
+        let short = Refusal {
+            number: 14,
+            line: 0,
+        };
+        match self.0 {
+            Fault::PageShort if buffer.len() == PAGE => return short,
+            Fault::PageOrder if buffer.len() < PAGE => return short,
+            _ => {}
+        }
+        let refusal = Plain.write_page(curves, buffer);
+        if !refusal.accepted() {
+            if let (Fault::PageBegun, [first, ..]) = (self.0, buffer) {
+                *first = b'w';
+            }
+            return refusal;
+        }
+        let (rows, after) = buffer.split_at_mut(PAGE);
+        for row in rows.chunks_mut(ROW) {
+            match self.0 {
+                Fault::PageNames if row.starts_with(b"fall  ") => {
+                    row[..6].copy_from_slice(b"  fall");
+                }
+                Fault::PageBlocks => row[7] += 1,
+                Fault::PageAtX => {
+                    for cell in PROBABILITIES {
+                        row[cell].copy_from_slice(b" 1000000000");
+                    }
+                }
+                Fault::PageRising => {
+                    let [first, second, ..] = PROBABILITIES;
+                    let (left, right) = row.split_at_mut(second.start);
+                    left[first].swap_with_slice(&mut right[..11]);
+                }
+                _ => {}
+            }
+        }
+        match (self.0, after) {
+            (Fault::PageEnded, [next, ..]) => *next = 0,
+            (Fault::PageOfX, _) if curves[1] % 2 == 1 => {
+                rows[PAGE - 12..PAGE - 1].copy_from_slice(b"          0");
+            }
+            _ => {}
         }
         refusal
     }
@@ -236,6 +308,59 @@ fn a_price_that_rises_is_told() {
         .unwrap();
     assert!(told.contains("second:"), "{told}");
     assert!(told.contains("booked hour,"), "{told}");
+}
+
+#[test]
+fn wrong_pages_are_found() {
+    for fault in [
+        Fault::PageBegun,
+        Fault::PageEnded,
+        Fault::PageShort,
+        Fault::PageOrder,
+        Fault::PageNames,
+        Fault::PageBlocks,
+        Fault::PageAtX,
+        Fault::PageRising,
+        Fault::PageOfX,
+    ] {
+        let Input::WritePage { curves, length } = smallest(fault) else {
+            panic!("the fault is in a page");
+        };
+        match fault {
+            Fault::PageBegun => assert_eq!(length, 1),
+            Fault::PageEnded => assert!(length > PAGE),
+            Fault::PageOrder => assert_eq!(length, 0),
+            _ => assert!(length >= PAGE),
+        }
+        assert_eq!(curves[0], 0, "{fault:?}");
+    }
+}
+
+#[test]
+fn a_page_can_be_read() {
+    let mut counts = page::Counts::default();
+    for place in 0..200 {
+        counts.add(&page::check(&Plain, &mut Random::at(3, place)).unwrap());
+    }
+    assert_eq!((counts.pages, counts.rows), (200, 4800));
+    assert!(counts.falling > 1000, "{counts:?}");
+    assert!(counts.apart > 100, "{counts:?}");
+}
+
+#[test]
+fn a_page_that_cannot_be_read_is_told() {
+    for (fault, reason) in [
+        (Fault::PageShort, "refused 14 line 0"),
+        (Fault::PageBlocks, "row 0: it is called winter 1"),
+        (Fault::PageRising, "a probability rises with reserve"),
+        (Fault::PageOfX, "have another page"),
+    ] {
+        let told = (0..100)
+            .find_map(|place| page::check(&Faulty(fault), &mut Random::at(3, place)).err())
+            .unwrap();
+        assert!(told.contains(reason), "{told}");
+        assert!(told.contains("VOLL"), "{told}");
+    }
 }
 
 #[test]

@@ -11,7 +11,7 @@ const MU_RANGE: RangeInclusive<i64> = -20_000_000..=20_000_000;
 const SIGMA_RANGE: RangeInclusive<i64> = 1..=20_000_000;
 
 /// A curve text that is read has at most this many bytes.
-const READ_LIMIT: usize = 4096;
+pub(crate) const READ_LIMIT: usize = 4096;
 
 /// A curve text that is written has at most this many bytes.
 pub const WRITTEN_LIMIT: usize = 700;

@@ -2,13 +2,15 @@
 //!
 //! History hours are booked into a [`Record`], a record settles into a
 //! [`CurveSet`] of 24 pairs (mu, sigma), and a curve set prices a snapshot of
-//! the grid. Power is in whole kW, money in whole cents per MWh and shares of
-//! one in billionths. All arithmetic is exact; nothing uses floating point.
+//! the grid or is printed as a page. Power is in whole kW, money in whole cents
+//! per MWh and shares of one in billionths. All arithmetic is exact; nothing uses
+//! floating point.
 
 mod curves;
 mod history;
 mod natural;
 mod normal;
+mod page;
 mod price;
 mod programs;
 mod snapshot;
@@ -17,10 +19,13 @@ mod text;
 pub use curves::{read_curves, write_curves, CurveSet, FLOOR_RANGE, VOLL_RANGE, WRITTEN_LIMIT};
 pub use history::{book, group_of, settle, Group, Record, GROUPS};
 pub use normal::{n_of, normal_table, BILLION, KNOTS};
+pub use page::{write_page, PAGE_LENGTH};
 pub use price::{
     pi_ns, pi_s, price_snapshot, price_values, reserves, sums, Prices, Reserves, Sums,
 };
-pub use programs::{run_curves, run_curves_from, run_price, PRICE_INPUT_LIMIT};
+pub use programs::{
+    run_curves, run_curves_from, run_page, run_price, PAGE_INPUT_LIMIT, PRICE_INPUT_LIMIT,
+};
 pub use snapshot::{
     read_snapshot, Clr, Generator, GeneratorKind, Nclr, Resource, Snapshot, Status, Unit,
 };

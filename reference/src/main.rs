@@ -1,7 +1,9 @@
-//! `reference price` and `reference curves`: standard input to standard output. `reference each price` and `reference each curves` do the same
-//! for many inputs in one run: each input, and each output, stands behind its length in eight bytes, the least first.
+//! `reference price`, `reference curves` and `reference page`: standard input
+//! to standard output. `reference each price` and so on do the same for many
+//! inputs in one run: each input, and each output, stands behind its length in
+//! eight bytes, the least first.
 
-use reference::{run_curves_from, run_price, PRICE_INPUT_LIMIT};
+use reference::{run_curves_from, run_page, run_price, PAGE_INPUT_LIMIT, PRICE_INPUT_LIMIT};
 use std::io::{self, BufRead, Read, Write};
 use std::process::ExitCode;
 
@@ -10,10 +12,12 @@ fn main() -> ExitCode {
     let output = match arguments.iter().map(String::as_str).collect::<Vec<_>>()[..] {
         ["price"] => price(io::stdin().lock()),
         ["curves"] => run_curves_from(io::stdin().lock()),
+        ["page"] => page(io::stdin().lock()),
         ["each", "price"] => each(|input| price(input)),
         ["each", "curves"] => each(|input| run_curves_from(input)),
+        ["each", "page"] => each(|input| page(input)),
         _ => {
-            eprintln!("usage: reference [each] price | reference [each] curves");
+            eprintln!("usage: reference [each] price|curves|page");
             return ExitCode::from(2);
         }
     };
@@ -33,10 +37,19 @@ fn print(bytes: Vec<u8>) -> io::Result<()> {
 }
 
 fn price(input: impl Read) -> io::Result<Vec<u8>> {
-    // One byte above the limit tells that the input is too long.
+    Ok(run_price(&front(input, PRICE_INPUT_LIMIT)?))
+}
+
+fn page(input: impl Read) -> io::Result<Vec<u8>> {
+    Ok(run_page(&front(input, PAGE_INPUT_LIMIT)?))
+}
+
+/// The input up to one byte above the limit, which is enough to tell that it
+/// is too long.
+fn front(input: impl Read, limit: usize) -> io::Result<Vec<u8>> {
     let mut front = Vec::new();
-    input.take(PRICE_INPUT_LIMIT as u64 + 1).read_to_end(&mut front)?;
-    Ok(run_price(&front))
+    input.take(limit as u64 + 1).read_to_end(&mut front)?;
+    Ok(front)
 }
 
 fn each(program: impl Fn(&[u8]) -> io::Result<Vec<u8>>) -> io::Result<Vec<u8>> {

@@ -1,7 +1,8 @@
-//! The two programs, from input bytes to output bytes.
+//! The three programs, from input bytes to output bytes.
 
-use crate::curves::{curve_text, read_curves, CurveSet, FLOOR_RANGE, VOLL_RANGE};
+use crate::curves::{curve_text, read_curves, CurveSet, FLOOR_RANGE, READ_LIMIT, VOLL_RANGE};
 use crate::history::{book, settle, Record, HOUR_LIMIT};
+use crate::page::page;
 use crate::price::{price_snapshot, Prices};
 use crate::text::{number, Lines, Refusal};
 use std::io::{self, BufRead, BufReader, Read};
@@ -9,6 +10,9 @@ use std::ops::RangeInclusive;
 
 /// `price` takes at most this many bytes.
 pub const PRICE_INPUT_LIMIT: usize = 65_536;
+
+/// `page` takes at most this many bytes: its whole input is one curve text.
+pub const PAGE_INPUT_LIMIT: usize = READ_LIMIT;
 
 /// A `voll` or `floor` line of `curves`, with its byte 10, has at most this
 /// many bytes.
@@ -74,6 +78,14 @@ fn prices_text(prices: &Prices) -> Vec<u8> {
     } = prices;
     format!("rs={rs}\nrsns={rsns}\npis={pis}\npins={pins}\nonline={online}\noffline={offline}\n")
         .into_bytes()
+}
+
+/// The program `page`: its output for this input.
+pub fn run_page(input: &[u8]) -> Vec<u8> {
+    match read_curves(input).map_err(Stop::of("curves")) {
+        Ok(curves) => page(&curves),
+        Err(stop) => stop.output(),
+    }
 }
 
 /// The program `curves`: its output for this input.

@@ -1,10 +1,9 @@
-//! The two programs, as bytes in and bytes out.
+//! The programs `price` and `curves`, as bytes in and bytes out.
 
 mod common;
 use common::*;
 use reference::{run_curves, run_curves_from, run_price, write_curves, CurveSet, GROUPS};
-use std::io::{self, Read, Write};
-use std::process::{Command, Stdio};
+use std::io::{self, Read};
 
 fn price(input: &str) -> String {
     String::from_utf8(run_price(input.as_bytes())).unwrap()
@@ -36,10 +35,6 @@ fn curves(input: &str) -> String {
     };
     assert_eq!(run_curves_from(trickle).unwrap(), output);
     String::from_utf8(output).unwrap()
-}
-
-fn refused(number: u32, line: u64, text: &str) -> String {
-    format!("refused={number}\nline={line}\ntext={text}\n")
 }
 
 fn price_input() -> String {
@@ -256,22 +251,9 @@ fn curves_stops_reading_at_the_first_refusal() {
     assert!(run_curves_from(stream).is_err());
 }
 
-/// Runs the command with this input.
 fn command(arguments: &[&str], input: &str) -> (String, Option<i32>) {
-    let mut child = Command::new(env!("CARGO_BIN_EXE_reference"))
-        .args(arguments)
-        .stdin(Stdio::piped())
-        .stdout(Stdio::piped())
-        .stderr(Stdio::null())
-        .spawn()
-        .unwrap();
-    // A command that has seen enough closes the pipe; that is no fault.
-    let _ = child.stdin.take().unwrap().write_all(input.as_bytes());
-    let output = child.wait_with_output().unwrap();
-    (
-        String::from_utf8(output.stdout).unwrap(),
-        output.status.code(),
-    )
+    let (output, code) = run_command(arguments, input.as_bytes());
+    (String::from_utf8(output).unwrap(), code)
 }
 
 #[test]

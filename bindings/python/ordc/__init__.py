@@ -6,6 +6,7 @@ Power is in whole kW, money in whole cents per MWh, shares of one in billionths.
     >>> curves = ordc.read_curves(open("desk.curves", "rb").read())
     >>> prices = ordc.price(curves, open("snapshot.txt", "rb").read())
     >>> prices.online, prices.offline
+    >>> page = ordc.write_page(curves).decode("ascii")
 
 What an operation refuses raises :class:`Refused`, which gives the number, the line and a sentence.
 The shared library is taken from the environment variable ORDC_LIBRARY where it is set, then from
@@ -15,7 +16,7 @@ target/staticlib of the repository that this package stands in, then from where 
 from ._library import GROUPS
 from ._refusals import EXPLANATIONS, Refused
 from ._values import CurveSet, Group, Pair, Prices, Record
-from ._operations import book, price, read_curves, settle, write_curves
+from ._operations import book, price, read_curves, settle, write_curves, write_page
 
 __all__ = [
     "GROUPS",
@@ -30,5 +31,6 @@ __all__ = [
     "settle",
     "read_curves",
     "write_curves",
+    "write_page",
     "price",
 ]

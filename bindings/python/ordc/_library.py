@@ -10,6 +10,7 @@ RECORD = 72
 CURVES = 50
 ANSWER = 6
 CURVE_TEXT = 700
+PAGE = 1728
 
 RecordArray = ctypes.c_int64 * RECORD
 CurvesArray = ctypes.c_int64 * CURVES
@@ -44,6 +45,7 @@ def _load() -> ctypes.CDLL:
         "ordc_settle": [pointer(RecordArray), ctypes.c_int64, ctypes.c_int64, pointer(CurvesArray)],
         "ordc_read_curves": [text, size, pointer(CurvesArray)],
         "ordc_write_curves": [pointer(CurvesArray), ctypes.c_char_p, size, pointer(ctypes.c_size_t)],
+        "ordc_write_page": [pointer(CurvesArray), ctypes.c_char_p, size],
         "ordc_price": [pointer(CurvesArray), text, size, pointer(AnswerArray)],
     }
     for name, arguments in signatures.items():

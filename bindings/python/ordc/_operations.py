@@ -1,8 +1,8 @@
-"""The five operations. Each raises Refused where it refuses its input."""
+"""The six operations. Each raises Refused where it refuses its input."""
 
 import ctypes
 
-from ._library import CURVE_TEXT, AnswerArray, CurvesArray, library
+from ._library import CURVE_TEXT, PAGE, AnswerArray, CurvesArray, library
 from ._refusals import check
 from ._values import CurveSet, Prices, Record, _fitting
 
@@ -35,6 +35,19 @@ def write_curves(curves: CurveSet) -> bytes:
     written = ctypes.c_size_t()
     check(library.ordc_write_curves(ctypes.byref(curves._array()), buffer, CURVE_TEXT, ctypes.byref(written)))
     return buffer.raw[: written.value]
+
+
+def write_page(curves: CurveSet) -> bytes:
+    """The page of a curve set: 1728 bytes, a row of 72 for each group, in order of the groups. Refusals: 1.
+
+    A row has the season (winter, spring, summer or fall), the block (0 to 5), the mean and the spread in kW, then the
+    probability of falling below X on an on-line and off-line reserve of X + 1000000, X + 2000000, X + 3000000 and
+    X + 4000000 kW, in billionths. The columns stand at the same places in every row, and each row ends with a line
+    feed. Neither VOLL nor X shows on the page.
+    """
+    buffer = ctypes.create_string_buffer(PAGE)
+    check(library.ordc_write_page(ctypes.byref(curves._array()), buffer, PAGE))
+    return buffer.raw
 
 
 def price(curves: CurveSet, text: bytes) -> Prices:

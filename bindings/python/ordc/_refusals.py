@@ -14,7 +14,7 @@ EXPLANATIONS = {
     11: "The hour's reserve error lies beyond 20000000 kW in size.",
     12: "A group has fewer than 2 hours.",
     13: "A group's errors have spread 0.",
-    14: "The buffer is shorter than the curve text.",
+    14: "The buffer is shorter than the curve text or the page.",
 }
 
 _OF_A_GROUP = (12, 13)

@@ -1,10 +1,12 @@
 """python -m unittest discover -s bindings/python/tests"""
 
+import ctypes
 import pathlib
 import threading
 import unittest
 
 import ordc
+from ordc import _library
 
 EXAMPLES = pathlib.Path(__file__).resolve().parents[1] / "examples"
 CURVES = (EXAMPLES / "listing.curves").read_bytes()
@@ -14,6 +16,38 @@ PRICES = ordc.Prices(2707000, 3000000, 158655254, 158655254, 142393, 71197)
 ALL_KINDS = (EXAMPLES / "snapshots" / "5-all-kinds.txt").read_bytes()
 THREE_RUNS = (EXAMPLES / "hour.txt").read_bytes()
 FORMAT = (EXAMPLES.parents[2] / "docs" / "FORMAT.md").read_bytes()
+README = (EXAMPLES.parents[2] / "README.md").read_bytes()
+# Rows of a page, each with its group, mean and spread, worked out by hand. On a reserve of X + d the probability is
+# 1000000000 - N(p) with p = 100 * (d - mean) / spread, for d = 1000000, 2000000, 3000000 and 4000000. N is 1000000000
+# from p = 500 on; below 0 it is 1000000000 - N(-p), so that the probability is N(-p). At a whole p it is a knot of the
+# normal table, which the table's rule gives by fractions of whole numbers: T(0) 500000000, T(100) 841344746,
+# T(105) 853140944, T(110) 864333939, T(115) 874928064, T(120) 884930330, T(200) 977249868.
+ROWS = {
+    # p = -100, 0, 100, 200
+    (0, 2000000, 1000000): b"winter 0   2000000  1000000  841344746  500000000  158655254   22750132\n",
+    # the longest mean and the longest spread; p = 2100000000 / 20000000 = 105, then 110, 115, 120
+    (5, -20000000, 20000000): b"winter 5 -20000000 20000000  146859056  135666061  125071936  115069670\n",
+    # the longest probability; p is -1900000000 to -1600000000
+    (6, 20000000, 1): b"spring 0  20000000        1 1000000000 1000000000 1000000000 1000000000\n",
+    # p is 2100000000 to 2400000000
+    (11, -20000000, 1): b"spring 5 -20000000        1          0          0          0          0\n",
+    # p = 70.7, between T(70) 758036348 and T(71) 761147932: N = 758036348 + floor(0.7 * 3111584) = 760214456; then p is
+    # 10070.7 and more
+    (12, 992930, 10000): b"summer 0    992930    10000  239785544          0          0          0\n",
+    # docs/FORMAT.md works this one out
+    (15, 712666, 1124667): b"summer 3    712666  1124667  399176016  126182998   20987705    1733886\n",
+    # p = -70.7: N(70.7) itself; then p is 9929.3 and more
+    (18, 1007070, 10000): b"fall   0   1007070    10000  760214456          0          0          0\n",
+    # p = 499.5, between T(499) 999999698 and T(500) 999999713: N = 999999698 + floor(0.5 * 15) = 999999705; then p is
+    # 999.5 and more
+    (23, 1000, 200000): b"fall   5      1000   200000        295          0          0          0\n",
+}
+# The page of listing.curves: p = 100, 200, 300, 400 in every group, with T(300) 998650102 and T(400) 999968329.
+LISTING_PAGE = b"".join(
+    b"%-6s %d         0  1000000  158655254   22750132    1349898      31671\n" % (season, block)
+    for season in (b"winter", b"spring", b"summer", b"fall")
+    for block in range(6)
+)
 HOUR = (
     "month={}\nhour={}\nongen={}\nload=0\ntie=0\nns=0\nreg=0\nrrs=0\nnclr=0\noffns=0\ncold30=0\nshed=0\nruns=1\n"
     "hsl=1000\nbase=0\nrrs=0\nnclr=0\nreg=0\nns=0\noffns=0\ncold30=0\nshort=0\n"
@@ -30,6 +64,12 @@ def booked(*errors: int) -> ordc.Record:
         for error in errors:
             record = ordc.book(record, hour(group, error))
     return record
+
+
+def with_pair(curves: ordc.CurveSet, group: int, mean: int, spread: int) -> ordc.CurveSet:
+    pairs = list(curves.pairs)
+    pairs[group] = ordc.Pair(mean, spread)
+    return ordc.CurveSet(curves.voll, curves.floor, tuple(pairs))
 
 
 class Operations(unittest.TestCase):
@@ -66,6 +106,54 @@ class Operations(unittest.TestCase):
     def test_written_back(self):
         self.assertEqual(ordc.write_curves(ordc.read_curves(CURVES)), CURVES)
 
+    def test_page_of_the_listing(self):
+        self.assertEqual(len(LISTING_PAGE), 1728)
+        self.assertEqual(ordc.write_page(ordc.read_curves(CURVES)), LISTING_PAGE)
+
+    def test_rows_worked_out_by_hand(self):
+        curves = ordc.read_curves(CURVES)
+        rows = LISTING_PAGE.splitlines(keepends=True)
+        for (group, mean, spread), row in ROWS.items():
+            self.assertEqual(len(row), 72)
+            curves = with_pair(curves, group, mean, spread)
+            rows[group] = row
+        # neither VOLL nor X shows
+        for voll, floor in ((900000, 2000000), (0, 0), (2000000, 20000000)):
+            self.assertEqual(ordc.write_page(ordc.CurveSet(voll, floor, curves.pairs)), b"".join(rows))
+
+    def test_pages_stand_in_the_documents(self):
+        self.assertIn(ROWS[15, 712666, 1124667], FORMAT)
+        first = LISTING_PAGE.splitlines(keepends=True)[:3]
+        self.assertIn(b"".join(b"    " + row for row in first), README)
+
+    def test_impossible_sets_have_no_page(self):
+        curves = ordc.read_curves(CURVES)
+        impossible = [ordc.CurveSet(voll, 0, curves.pairs) for voll in (-1, 2000001)]
+        impossible += [ordc.CurveSet(0, floor, curves.pairs) for floor in (-1, 20000001)]
+        for group in range(ordc.GROUPS):
+            impossible += [with_pair(curves, group, mean, 1) for mean in (-20000001, 20000001)]
+            impossible += [with_pair(curves, group, 0, spread) for spread in (-1, 0, 20000001)]
+        for curves in impossible:
+            self.refused(1, 0, ordc.write_page, curves)
+
+    def test_page_buffers(self):
+        # write_page lends a buffer that is long enough; shorter and longer ones go to the library's function.
+        def written(curves: ordc.CurveSet, size: int) -> tuple:
+            buffer = ctypes.create_string_buffer(b"x" * 2000, 2000)
+            refusal = _library.library.ordc_write_page(ctypes.byref(curves._array()), buffer, size)
+            return refusal.number, refusal.line, buffer.raw
+
+        curves = ordc.read_curves(CURVES)
+        for size in (0, 1, 1727):
+            self.assertEqual(written(curves, size), (14, 0, b"x" * 2000))
+        for size in (1728, 1729, 2000):
+            self.assertEqual(written(curves, size), (0, 0, LISTING_PAGE + b"x" * 272))
+        # 1 comes before 14
+        for size in (0, 1, 1727, 1728, 1729, 2000):
+            self.assertEqual(written(with_pair(curves, 23, 0, 0), size), (1, 0, b"x" * 2000))
+        explained = "refused by 14: The buffer is shorter than the curve text or the page."
+        self.assertEqual(str(ordc.Refused(14, 0)), explained)
+
     def test_every_refusal(self):
         curves = ordc.read_curves(CURVES)
         below = ordc.Record((ordc.Group(-1, 0, 0),) + (ordc.Group(),) * 23)
@@ -73,6 +161,7 @@ class Operations(unittest.TestCase):
         self.refused(1, 0, ordc.book, below, hour(0, 0))
         self.refused(1, 0, ordc.settle, below, 0, 0)
         self.refused(1, 0, ordc.write_curves, ordc.CurveSet(-1, 0, curves.pairs))
+        self.refused(1, 0, ordc.write_page, ordc.CurveSet(-1, 0, curves.pairs))
         self.refused(1, 0, ordc.price, ordc.CurveSet(-1, 0, curves.pairs), LISTING)
         self.refused(2, 0, ordc.read_curves, b"x" * 4097)
         self.refused(2, 0, ordc.book, ordc.Record(), b"x" * 65537)
@@ -94,6 +183,8 @@ class Operations(unittest.TestCase):
     def test_numbers_that_do_not_fit(self):
         with self.assertRaises(OverflowError):
             ordc.settle(ordc.Record(), 2**63, 0)
+        with self.assertRaises(OverflowError):
+            ordc.write_page(ordc.CurveSet(2**64, 0, ordc.read_curves(CURVES).pairs))
         with self.assertRaises(ValueError):
             ordc.settle(ordc.Record(()), 0, 0)
 

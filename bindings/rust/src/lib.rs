@@ -1,8 +1,9 @@
 //! Reserve curves and the two operating reserve prices, over the static library `libordc.a`.
 //!
 //! Hours are booked on a [`Record`], a record settles into a [`CurveSet`], and a curve set prices a
-//! snapshot's text into [`Prices`]. Power is in whole kW, money in whole cents per MWh, shares of one
-//! in billionths. What an operation refuses is a [`Refusal`], and then nothing has changed.
+//! snapshot's text into [`Prices`] or is written as a page for people to read. Power is in whole kW,
+//! money in whole cents per MWh, shares of one in billionths. What an operation refuses is a
+//! [`Refusal`], and then nothing has changed.
 //!
 //! ```
 //! let curves = ordc::CurveSet {
@@ -12,6 +13,9 @@
 //! };
 //! let text = curves.to_text()?;
 //! assert_eq!(ordc::CurveSet::from_text(&text)?, curves);
+//! let page = curves.to_page()?;
+//! let first = b"winter 0         0  1000000  158655254   22750132    1349898      31671\n";
+//! assert!(page.starts_with(first));
 //! # Ok::<(), ordc::Refusal>(())
 //! ```
 
@@ -22,6 +26,9 @@ pub use refusal::Refusal;
 
 /// Four seasons of six four-hour blocks.
 pub const GROUPS: usize = 24;
+
+/// Every page has this many bytes: a row of 72 for each group.
+pub const PAGE: usize = raw::PAGE;
 
 /// No operation needs more bytes of stack than this, whatever it is handed.
 pub const STACK: usize = raw::STACK;
@@ -119,6 +126,29 @@ impl CurveSet {
     /// 1, 14; the buffer is then as it was.
     pub fn write_text(&self, buffer: &mut [u8]) -> Result<usize, Refusal> {
         raw::write_curves(&self.values(), buffer)
+    }
+
+    /// The page: a row of 72 bytes for each group, in order of the groups. A row has the season (winter, spring, summer
+    /// or fall), the block (0 to 5), the mean and the spread in kW, then the probability of falling below X on an
+    /// on-line and off-line reserve of X + 1000000, X + 2000000, X + 3000000 and X + 4000000 kW, in billionths. The
+    /// columns stand at the same places in every row, and each row ends with a line feed.
+    ///
+    /// Neither VOLL nor X shows on the page.
+    ///
+    /// # Errors
+    /// 1.
+    pub fn to_page(&self) -> Result<[u8; PAGE], Refusal> {
+        let mut page = [0; PAGE];
+        self.write_page(&mut page)?;
+        Ok(page)
+    }
+
+    /// Writes the page to the front of a buffer, in its first [`PAGE`] bytes; bytes after it stay.
+    ///
+    /// # Errors
+    /// 1, 14; the buffer is then as it was.
+    pub fn write_page(&self, buffer: &mut [u8]) -> Result<(), Refusal> {
+        raw::write_page(&self.values(), buffer)
     }
 
     /// Prices a snapshot's text.

@@ -6,6 +6,7 @@ pub const RECORD: usize = 72;
 pub const CURVES: usize = 50;
 pub const ANSWER: usize = 6;
 pub const CURVE_TEXT: usize = 700;
+pub const PAGE: usize = 1728;
 pub const STACK: usize = 262_144;
 
 #[repr(C)]
@@ -24,6 +25,7 @@ extern "C" {
         size: usize,
         written: *mut usize,
     ) -> RawRefusal;
+    fn ordc_write_page(curves: *const i64, buffer: *mut u8, size: usize) -> RawRefusal;
     fn ordc_price(
         curves: *const i64,
         text: *const u8,
@@ -72,6 +74,10 @@ pub fn write_curves(curves: &[i64; CURVES], buffer: &mut [u8]) -> Result<usize, 
         )
     })?;
     Ok(written)
+}
+
+pub fn write_page(curves: &[i64; CURVES], buffer: &mut [u8]) -> Result<(), Refusal> {
+    check(unsafe { ordc_write_page(curves.as_ptr(), buffer.as_mut_ptr(), buffer.len()) })
 }
 
 pub fn price(curves: &[i64; CURVES], text: &[u8]) -> Result<[i64; ANSWER], Refusal> {

@@ -28,7 +28,7 @@ impl Refusal {
             11 => "the hour's reserve error lies beyond 20000000 kW in size",
             12 => "a group has fewer than 2 hours",
             13 => "a group's errors have spread 0",
-            14 => "the buffer is shorter than the curve text",
+            14 => "the buffer is shorter than the curve text or the page",
             _ => "refused",
         }
     }

@@ -1,4 +1,4 @@
-use ordc::{CurveSet, Group, Pair, Prices, Record, Refusal, GROUPS};
+use ordc::{CurveSet, Group, Pair, Prices, Record, Refusal, GROUPS, PAGE};
 
 const LISTING: &str = include_str!("../../python/examples/snapshots/1-listing.txt");
 const ALL_KINDS: &[u8] = include_bytes!("../../python/examples/snapshots/5-all-kinds.txt");
@@ -12,6 +12,82 @@ const PRICES: Prices = Prices {
     online: 142_393,
     offline: 71_197,
 };
+
+/// Mean, spread and row of each group, worked out by hand. On a reserve of X + d the probability is 1000000000 - N(p) with
+/// p = 100 * (d - mean) / spread, for d = 1000000, 2000000, 3000000 and 4000000. N is 1000000000 from p = 500 on; below 0
+/// it is 1000000000 - N(-p), so that the probability is N(-p). At a whole p it is a knot of the normal table. The knots
+/// that are used here come from the table's rule, by fractions of whole numbers: T(0) 500000000, T(1) 503989356,
+/// T(25) 598706326, T(26) 602568113, T(70) 758036348, T(71) 761147932, T(100) 841344746, T(105) 853140944,
+/// T(110) 864333939, T(114) 872856849, T(115) 874928064, T(120) 884930330, T(200) 977249868, T(203) 978821730,
+/// T(204) 979324837, T(292) 998249843, T(293) 998305190, T(300) 998650102, T(400) 999968329, T(499) 999999698,
+/// T(500) 999999713.
+#[rustfmt::skip]
+const ROWS: [(i64, i64, &str); GROUPS] = [
+    // p = 100, 200, 300, 400.
+    (0, 1_000_000,
+     "winter 0         0  1000000  158655254   22750132    1349898      31671\n"),
+    // p = -100, 0, 100, 200.
+    (2_000_000, 1_000_000,
+     "winter 1   2000000  1000000  841344746  500000000  158655254   22750132\n"),
+    // The longest mean and the longest spread: p = 2100000000 / 20000000 = 105, then 110, 115, 120.
+    (-20_000_000, 20_000_000,
+     "winter 2 -20000000 20000000  146859056  135666061  125071936  115069670\n"),
+    // The longest probability: p is -1900000000 to -1600000000.
+    (20_000_000, 1,
+     "winter 3  20000000        1 1000000000 1000000000 1000000000 1000000000\n"),
+    // p is 2100000000 to 2400000000.
+    (-20_000_000, 1,
+     "winter 4 -20000000        1          0          0          0          0\n"),
+    // p = 70.7: N = 758036348 + floor(0.7 * 3111584) = 760214456. Then p = 10070.7 and more.
+    (992_930, 10_000,
+     "winter 5    992930    10000  239785544          0          0          0\n"),
+    // p = -70.7: N(70.7) itself. Then p = 9929.3 and more.
+    (1_007_070, 10_000,
+     "spring 0   1007070    10000  760214456          0          0          0\n"),
+    // p = 499.5: N = 999999698 + floor(0.5 * 15) = 999999705. Then p = 999.5 and more.
+    (1_000, 200_000,
+     "spring 1      1000   200000        295          0          0          0\n"),
+    // p = 500: N is no longer a knot. Then p = 1000 and more.
+    (0, 200_000,
+     "spring 2         0   200000          0          0          0          0\n"),
+    // p = 1/3: N = 500000000 + floor(3989356 / 3) = 501329785. Then p = 3333 2/3 and more.
+    (999_900, 30_000,
+     "spring 3    999900    30000  498670215          0          0          0\n"),
+    // p = -1/3. Then p = 3333 and more.
+    (1_000_100, 30_000,
+     "spring 4   1000100    30000  501329785          0          0          0\n"),
+    // p is -300000000, -200000000, -100000000 and 0.
+    (4_000_000, 1,
+     "spring 5   4000000        1 1000000000 1000000000 1000000000  500000000\n"),
+    // From here on, except in summer 3, p is 99997900 or more.
+    (12, 1,
+     "summer 0        12        1          0          0          0          0\n"),
+    (13, 1,
+     "summer 1        13        1          0          0          0          0\n"),
+    (14, 1,
+     "summer 2        14        1          0          0          0          0\n"),
+    // The row of docs/FORMAT.md: N = 598706326 + floor(3861787 * 616725 / 1124667) = 600823984,
+    // 872856849 + floor(2071215 * 521362 / 1124667) = 873817002, 978821730 + floor(503107 * 425999 / 1124667) = 979012295,
+    // 998249843 + floor(55347 * 330636 / 1124667) = 998266114.
+    (712_666, 1_124_667,
+     "summer 3    712666  1124667  399176016  126182998   20987705    1733886\n"),
+    (16, 1,
+     "summer 4        16        1          0          0          0          0\n"),
+    (17, 1,
+     "summer 5        17        1          0          0          0          0\n"),
+    (18, 1,
+     "fall   0        18        1          0          0          0          0\n"),
+    (19, 1,
+     "fall   1        19        1          0          0          0          0\n"),
+    (20, 1,
+     "fall   2        20        1          0          0          0          0\n"),
+    (21, 1,
+     "fall   3        21        1          0          0          0          0\n"),
+    (-22, 1,
+     "fall   4       -22        1          0          0          0          0\n"),
+    (-23, 1,
+     "fall   5       -23        1          0          0          0          0\n"),
+];
 
 fn curves() -> CurveSet {
     CurveSet::from_text(CURVES).unwrap()
@@ -86,6 +162,80 @@ fn errors_settle_into_curves_and_their_text() {
     assert_eq!(curves().to_text().unwrap(), CURVES);
 }
 
+fn curves_of_rows(voll: i64, floor: i64) -> CurveSet {
+    CurveSet {
+        voll,
+        floor,
+        pairs: ROWS.map(|(mean, spread, _)| Pair { mean, spread }),
+    }
+}
+
+fn page_of_rows() -> String {
+    ROWS.map(|(_, _, row)| row).concat()
+}
+
+/// Every row has 72 bytes and the page 1728. It is the same whatever VOLL and X are, up to both ends of their ranges.
+#[test]
+fn a_page_worked_out_by_hand() {
+    assert!(ROWS.iter().all(|(_, _, row)| row.len() == 72));
+    assert_eq!(PAGE, 1728);
+    for (voll, floor) in [(900_000, 2_000_000), (0, 0), (2_000_000, 20_000_000)] {
+        let page = curves_of_rows(voll, floor).to_page().unwrap();
+        assert_eq!(std::str::from_utf8(&page), Ok(page_of_rows().as_str()));
+    }
+}
+
+/// In a buffer of 1728 bytes or more the first 1728 are the page. A shorter one is refused by 14. The bytes before and
+/// after, and a buffer that is refused, are as before.
+#[test]
+fn a_page_takes_1728_bytes() {
+    for size in [0, 1, 72, 1727, 1728, 1729, 2500] {
+        let mut space = [7; 4000];
+        let answer = curves_of_rows(900_000, 2_000_000).write_page(&mut space[500..500 + size]);
+        let mut expected = [7; 4000];
+        if size < 1728 {
+            refused(answer, 14, 0);
+        } else {
+            assert_eq!(answer, Ok(()));
+            expected[500..2228].copy_from_slice(page_of_rows().as_bytes());
+        }
+        assert_eq!(space, expected, "{size} bytes");
+    }
+}
+
+/// A number outside its range is refused by 1 before the buffer is looked at, also VOLL and X, which no page shows.
+#[test]
+fn an_impossible_set_has_no_page() {
+    let mut impossible = vec![];
+    for voll in [-1, 2_000_001, i64::MIN, i64::MAX] {
+        impossible.push(CurveSet { voll, ..curves() });
+    }
+    for floor in [-1, 20_000_001, i64::MIN, i64::MAX] {
+        impossible.push(CurveSet { floor, ..curves() });
+    }
+    for group in 0..GROUPS {
+        let mut push = |mean, spread| {
+            let mut set = curves();
+            set.pairs[group] = Pair { mean, spread };
+            impossible.push(set);
+        };
+        for mean in [-20_000_001, 20_000_001, i64::MIN, i64::MAX] {
+            push(mean, 1_000_000);
+        }
+        for spread in [0, -1, 20_000_001, i64::MIN, i64::MAX] {
+            push(0, spread);
+        }
+    }
+    for set in impossible {
+        refused(set.to_page(), 1, 0);
+        for size in [0, 1, 1727, 1728, 1729] {
+            let mut space = [7; 2000];
+            refused(set.write_page(&mut space[100..100 + size]), 1, 0);
+            assert_eq!(space, [7; 2000]);
+        }
+    }
+}
+
 #[test]
 fn every_refusal() {
     let mut record = Record::default();
@@ -107,6 +257,15 @@ fn every_refusal() {
             ..curves()
         }
         .price(LISTING.as_bytes()),
+        1,
+        0,
+    );
+    refused(
+        CurveSet {
+            voll: -1,
+            ..curves()
+        }
+        .to_page(),
         1,
         0,
     );
@@ -142,6 +301,7 @@ fn every_refusal() {
     refused(Record::default().settle(0, 0), 12, 0);
     refused(booked(&[5, 5]).settle(0, 0), 13, 0);
     refused(curves().write_text(&mut [0; 10]), 14, 0);
+    refused(curves().write_page(&mut [0; PAGE - 1]), 14, 0);
 }
 
 #[test]

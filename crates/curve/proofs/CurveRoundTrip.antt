@@ -1,9 +1,10 @@
--- Every curve set in range has exactly one text: the round trips of the text storey, at the schema of a curve text.
+-- Every curve set in range has exactly one text: the round trips of the text storey, at the schema of a curve text. And a set that was read is in range.
 use Prim.Native.Nat.{ℕ, _+_, _≤_}
 use native.Mathlib.Nat.{sub-zero}
 use native.Mathlib.Omega.{arith}
 use mathlib.Core.List.{List, [], append-nil}
-use mathlib.Core.Path.{_≡_, ap, _∙_}
+use mathlib.Core.Bool.{true}
+use mathlib.Core.Path.{_≡_, refl, ap, _∙_}
 use lib.IntN.{ℤ}
 use lib.ListN.{length}
 use lib.Seq.{take-all}
@@ -14,13 +15,15 @@ use Rattle.text.proofs.RoundTrip.{written-is-read-back, read-is-written-back}
 use Rattle.text_refusal.specs.declared.answer.Answer.the-variants as answer
 use Rattle.curve_set.specs.declared.Curves.{Curves}
 use Rattle.curve_set.specs.CurveValues.{curveValues, curvesOf}
-use Rattle.curve_set.proofs.CurveValues.{set-of-values, values-of-set}
-use Rattle.curve_text.specs.CurveText.{curveFields, curveLines, curveText}
+use Rattle.curve_set.specs.Curves.{curvesInRange}
+use Rattle.curve_set.proofs.CurveValues.{set-of-values, values-of-set, pairs-of-length}
+use Rattle.curve_text.specs.CurveText.{curveFields, curveLines, readCurves, curveText}
 use Rattle.curve_text.proofs.CurveText.{fifty-lines}
 use Rattle.curve_text.proofs.CurveCases.{text-of-values, text-read}
+use Rattle.curve_text.proofs.CurveInRange.{lines-in-range}
 use Rattle.curve_text.proofs.CurveFields.{curves-sound, curves-fit, text-at-most-700}
 use Rattle.curve.specs.FirstRefusal.{ReadingCurvesCase, curves-too-long, curve-line-refused, bytes-after-curves, curves-read}
-use Rattle.curve.specs.Promises.{CurveTextIsReadBack, CurveTextIsWrittenBack, CurveTextIsShort}
+use Rattle.curve.specs.Promises.{CurveTextIsReadBack, CurveTextIsWrittenBack, CurveTextIsShort, ReadCurvesAreInRange}
 use Rattle.curve.proofs.FirstRefusal.{reading-curves-is-refused-first}
 
 pub curve-text-is-short : CurveTextIsShort
@@ -58,3 +61,24 @@ curve-text-is-written-back text e = go (reading-curves-is-refused-first text .ap
     go (curve-line-refused short found read) a = let z : _≡_ {A = ℕ} 0 1 = cc in absurd (omega arith)
     go (bytes-after-curves short next read more) a = let z : _≡_ {A = ℕ} 0 1 = cc in absurd (omega arith)
     go (curves-read short next read over) a = written-back text next read over
+
+-- ---- what was read is in range
+
+pub read-curves-are-in-range : ReadCurvesAreInRange
+read-curves-are-in-range text e = go (reading-curves-is-refused-first text .applies) e
+  where
+    go : {curves : Curves} → ReadingCurvesCase text curves → curves .answer ≡ answer.Accepted → curvesInRange (curves .set) ≡ true
+    go (curves-too-long long) a = cc
+    go (curve-line-refused short found read) a = cc
+    go (bytes-after-curves short next read more) a = cc
+    go (curves-read short next read over) a = lines-in-range text next read
+
+-- it has twenty-four pairs, and so have the curves of a refusal
+pub read-length : (text : List ℕ) → length (readCurves text .set .pairs) ≡ 24
+read-length text = go (reading-curves-is-refused-first text .applies)
+  where
+    go : {curves : Curves} → ReadingCurvesCase text curves → length (curves .set .pairs) ≡ 24
+    go (curves-too-long long) = refl
+    go (curve-line-refused short found read) = refl
+    go (bytes-after-curves short next read more) = refl
+    go (curves-read short next read over) = pairs-of-length (curveLines text .values)

@@ -13,12 +13,15 @@ use Rattle.text_line.specs.declared.Lines.{Lines}
 use Rattle.text_line.specs.declared.Lines.the-variants as lines
 use Rattle.text_refusal.specs.declared.refusal.Refusal.{Refusal}
 use Rattle.curve_set.specs.Curves.{vollInRange, floorInRange, curvesInRange}
+use Rattle.text_refusal.specs.declared.answer.Answer.{Answer}
 use Rattle.text_refusal.specs.declared.answer.Answer.the-variants as answer
 use Rattle.curve_set.specs.declared.CurveSet.{CurveSet}
 use Rattle.curve_set.specs.declared.Curves.{Curves}
 use Rattle.curve_text.specs.declared.WrittenCurves.{WrittenCurves}
 use Rattle.curve_text.specs.CurveText.{curveLines, curveText, readCurves, writingCurves, writtenBuffer, writingAnswer, writtenLength}
 use Rattle.curve_text.proofs.CurveCases as curve-cases
+use Rattle.curve_page.specs.Page.{writingPage, pageBuffer}
+use Rattle.curve_page.proofs.PageCases as page-cases
 use Rattle.curve_hour.specs.Hour.{HourAnswer, hourIn, errorAnswer, ownLines, runLines}
 use Rattle.curve_hour.specs.declared.read.ReadHour.{ReadHour}
 use Rattle.curve_hour.specs.declared.read.ReadHour.the-variants as read-hour
@@ -62,8 +65,13 @@ use Rattle.curve.specs.FirstRefusal.{
   set-impossible,
   buffer-short,
   text-written,
+  PageWriting,
+  WritingPageCase,
+  page-impossible,
+  page-buffer-short,
+  page-written,
 }
-use Rattle.curve.specs.Promises.{ReadingHoursIsRefusedFirst, BookingIsRefusedFirst, SettlingIsRefusedFirst, ReadingCurvesIsRefusedFirst, WritingCurvesIsRefusedFirst}
+use Rattle.curve.specs.Promises.{ReadingHoursIsRefusedFirst, BookingIsRefusedFirst, SettlingIsRefusedFirst, ReadingCurvesIsRefusedFirst, WritingCurvesIsRefusedFirst, WritingPagesIsRefusedFirst}
 
 -- ---- an hour's text
 
@@ -304,3 +312,47 @@ writing-only curves buffer other (text-written inside room) =
 
 pub writing-curves-is-refused-first : WritingCurvesIsRefusedFirst
 writing-curves-is-refused-first curves buffer = record { applies = writing-applies curves buffer; only = writing-only curves buffer }
+
+-- ---- pages
+
+abbrev page-given : Answer → List ℕ → PageWriting
+page-given found after = record { answer = found; buffer = after }
+
+module _ (curves : CurveSet) (buffer : List ℕ) where
+  abbrev page : PageWriting
+  page = page-given (writingPage curves buffer) (pageBuffer curves buffer)
+
+  page-applies : WritingPageCase curves buffer page
+  page-applies = by-range (curvesInRange curves) refl
+    where
+      by-room : curvesInRange curves ≡ true → (room : Bool) → leb 1728 (length buffer) ≡ room → WritingPageCase curves buffer page
+      by-room inside true e =
+          let room = leb-true 1728 (length buffer) e in
+          rw (page-cases.page-written curves buffer inside room, page-cases.page-laid curves buffer inside room) (page-written inside room)
+      by-room inside false e =
+          let short = leb-false 1728 (length buffer) e in
+          rw (page-cases.short-refused curves buffer inside short, page-cases.short-stays curves buffer inside short) (page-buffer-short inside short)
+
+      by-range : (inside : Bool) → curvesInRange curves ≡ inside → WritingPageCase curves buffer page
+      by-range false e = rw (page-cases.impossible-refused curves buffer e, page-cases.impossible-stays curves buffer e) (page-impossible e)
+      by-range true e = by-room e (leb 1728 (length buffer)) refl
+
+  page-only : (other : PageWriting) → WritingPageCase curves buffer other → other ≡ page
+  page-only other (page-impossible out) =
+      sym (ap₂ page-given (page-cases.impossible-refused curves buffer out) (page-cases.impossible-stays curves buffer out))
+  page-only other (page-buffer-short inside short) =
+      sym (ap₂ page-given (page-cases.short-refused curves buffer inside short) (page-cases.short-stays curves buffer inside short))
+  page-only other (page-written inside room) =
+      sym (ap₂ page-given (page-cases.page-written curves buffer inside room) (page-cases.page-laid curves buffer inside room))
+
+pub writing-pages-is-refused-first : WritingPagesIsRefusedFirst
+writing-pages-is-refused-first curves buffer = record { applies = page-applies curves buffer; only = page-only curves buffer }
+
+-- a refused page leaves the buffer
+pub page-refused-leaves : (curves : CurveSet) (buffer : List ℕ) {found : Refusal} → writingPage curves buffer ≡ answer.Refused found → pageBuffer curves buffer ≡ buffer
+page-refused-leaves curves buffer {found} = go (page-applies curves buffer)
+  where
+    go : {after : PageWriting} → WritingPageCase curves buffer after → after .answer ≡ answer.Refused found → after .buffer ≡ buffer
+    go (page-impossible out) e = refl
+    go (page-buffer-short inside short) e = refl
+    go (page-written inside room) e = let z : _≡_ {A = ℕ} 0 1 = cc in absurd (omega arith)

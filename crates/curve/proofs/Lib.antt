@@ -5,3 +5,4 @@ pub mod Booked
 pub mod Shift
 pub mod Promises
 pub mod Numbered
+pub mod Pages

@@ -15,6 +15,7 @@ use Rattle.text_line.proofs.FieldTexts.{OfLines}
 use Rattle.text_schema.specs.Schema.{repeated, keysOf, numberFields}
 use Rattle.text_schema.proofs.Fields.{FieldsNumbered, reading-numbered, numbers-numbered, placed-numbered, repeated-numbered}
 use Rattle.curve_text.specs.CurveText.{curveFields, readCurves, writingCurves, writingAnswer}
+use Rattle.curve_page.specs.Page.{writingPage}
 use Rattle.curve_hour.specs.Hour.{hourFields, runFields, ownHour}
 use Rattle.curve_hour.specs.declared.read.ReadHour.{ReadHour}
 use Rattle.curve_hour.specs.declared.read.ReadHour.the-variants as read-hour
@@ -52,8 +53,13 @@ use Rattle.curve.specs.FirstRefusal.{
   set-impossible,
   buffer-short,
   text-written,
+  PageWriting,
+  WritingPageCase,
+  page-impossible,
+  page-buffer-short,
+  page-written,
 }
-use Rattle.curve.proofs.FirstRefusal.{booking-is-refused-first, settling-is-refused-first, reading-curves-is-refused-first, writing-curves-is-refused-first}
+use Rattle.curve.proofs.FirstRefusal.{booking-is-refused-first, settling-is-refused-first, reading-curves-is-refused-first, writing-curves-is-refused-first, writing-pages-is-refused-first}
 use Rattle.curve_hour.proofs.Runs.{runKeys, run-schema}
 use Rattle.curve_hour.proofs.Hours.{hourKeys, hourLows, hourHighs, hour-places}
 use Rattle.curve_text.proofs.CurveText.{curveKeys, curveLows, curveHighs, curve-schema}
@@ -144,3 +150,13 @@ writing-numbered curves buffer = go (writing-curves-is-refused-first curves buff
     go (set-impossible out) = (omega arith, omega arith)
     go (buffer-short inside short) = (omega arith, omega arith)
     go (text-written inside room) = tt
+
+-- ---- pages
+
+pub page-numbered : (curves : CurveSet) (buffer : List ℕ) → AnswerNumbered (writingPage curves buffer)
+page-numbered curves buffer = go (writing-pages-is-refused-first curves buffer .applies)
+  where
+    go : {written : PageWriting} → WritingPageCase curves buffer written → AnswerNumbered (written .answer)
+    go (page-impossible out) = (omega arith, omega arith)
+    go (page-buffer-short inside short) = (omega arith, omega arith)
+    go (page-written inside room) = tt

@@ -1,4 +1,4 @@
--- Document 01, "Turned back, in checking order", for the operations on history and curves (demand 1). For each operation a list of cases in checking order:
+-- Document 01, "Turned back, in checking order", and document 02, W-201, for the operations on history and curves (demand 1). For each operation a list of cases in checking order:
 -- each case says when it applies, which rules out every case above it, and what the operation then answers. The last case of each list is acceptance. An
 -- operation's answer is decided by its list: one of the cases applies, so that nothing else is refused, and any case that applies gives that answer.
 use Prim.Native.Nat.{ℕ, _≤_, _<_}
@@ -20,6 +20,7 @@ use Rattle.text_refusal.specs.declared.answer.Answer.the-variants as answer
 use Rattle.curve_set.specs.declared.CurveSet.{CurveSet}
 use Rattle.curve_set.specs.declared.Curves.{Curves}
 use Rattle.curve_text.specs.CurveText.{curveLines, curveText}
+use Rattle.curve_page.specs.Page.{pageOf}
 use Rattle.curve_hour.specs.Hour.{hourGroup, errorOf, ownLines, ownHour, runLines, ownRuns}
 use Rattle.curve_hour.specs.declared.read.ReadHour.{ReadHour}
 use Rattle.curve_hour.specs.declared.read.ReadHour.the-variants as read-hour
@@ -152,3 +153,21 @@ pub data WritingCurvesCase (curves : CurveSet) (buffer : List ℕ) : Writing →
       curvesInRange curves ≡ true → length (curveText curves) ≤ length buffer →
       WritingCurvesCase curves buffer
       (record { answer = answer.Accepted; length = length (curveText curves); buffer = laidAt buffer 0 (curveText curves) })
+
+-- ---- writing a page: 1, then 14; a refused write leaves the buffer
+
+-- what a call gives: the answer, and the buffer after the call
+pub record PageWriting : Type 0 where
+  pub answer : Answer
+  pub buffer : List ℕ
+
+pub data WritingPageCase (curves : CurveSet) (buffer : List ℕ) : PageWriting → Type 0 where
+  -- 1: a curve value is out of range
+  page-impossible : curvesInRange curves ≡ false → WritingPageCase curves buffer (record { answer = refusal 1 0; buffer = buffer })
+  -- 14: the buffer is shorter than the page
+  page-buffer-short :
+      curvesInRange curves ≡ true → length buffer < 1728 → WritingPageCase curves buffer (record { answer = refusal 14 0; buffer = buffer })
+  -- accepted: the page in place of the buffer's first bytes; bytes after it stay
+  page-written :
+      curvesInRange curves ≡ true → 1728 ≤ length buffer →
+      WritingPageCase curves buffer (record { answer = answer.Accepted; buffer = laidAt buffer 0 (pageOf curves) })

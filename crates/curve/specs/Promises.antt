@@ -1,14 +1,19 @@
 -- What is promised of curves. Demand 1: each operation is refused by the first number in checking order, and by nothing else. Demand 2: one text for each
--- curve set; settled sets are in range, and booked records are possible. For demand 3: lowered errors lower means, and probabilities never rise.
-use Prim.Native.Nat.{ℕ, _≤_, _<_}
+-- curve set; read and settled sets are in range, and booked records are possible. For demand 3: lowered errors lower means, and probabilities never rise. And what
+-- document 02, W-201, says of the page.
+use Prim.Native.Nat.{ℕ, _*_, _≤_, _<_}
 use mathlib.Core.Path.{_≡_}
 use mathlib.Core.Bool.{true}
 use mathlib.Core.List.{List}
 use lib.IntN.{ℤ, pos, _-ℤ_}
-use lib.ListN.{length}
+use lib.ListN.{length, take, drop}
 use lib.Signed.{_≤ℤ_}
+use Rattle.text_number.specs.Number.{writtenNumber}
+use Rattle.text_writer.specs.Row.{paddedRight}
+use Rattle.curve_group.specs.Season.{seasonOf, blockOf, groupOf, groupSeason}
 use Rattle.curve_set.specs.Curves.{curvesInRange}
 use Rattle.text_refusal.specs.declared.answer.Answer.the-variants as answer
+use Rattle.curve_set.specs.declared.Pair.{Pair}
 use Rattle.curve_set.specs.declared.CurveSet.{CurveSet}
 use Rattle.curve_text.specs.CurveText.{readCurves, curveText, writingCurves, writtenBuffer, writingAnswer, writtenLength}
 use Rattle.curve_hour.specs.Hour.{hourIn, errorAnswer}
@@ -18,7 +23,8 @@ use Rattle.curve_record.specs.declared.Record.{Record}
 use Rattle.curve_booking.specs.Booking.{booked}
 use Rattle.curve_settling.specs.Settle.{spreadOf, settled}
 use Rattle.curve_probability.specs.Probability.{onlineProbability, offlineProbability}
-use Rattle.curve.specs.FirstRefusal.{Decides, HourCase, BookingCase, SettlingCase, ReadingCurvesCase, WritingCurvesCase}
+use Rattle.curve_page.specs.Page.{seasonName, seasonCell, blockCell, probabilityAbove, pageRow, pairOfGroup, pageOf, writingPage, pageBuffer}
+use Rattle.curve.specs.FirstRefusal.{Decides, HourCase, BookingCase, SettlingCase, ReadingCurvesCase, WritingCurvesCase, WritingPageCase}
 use Rattle.curve.specs.Lists.{bookedAll, ListsLowered}
 
 -- ---- demand 1: the number first in checking order with its line, what stands as before, and nothing else refused (the lists of specs/FirstRefusal.antt)
@@ -47,6 +53,12 @@ WritingCurvesIsRefusedFirst =
     Decides (WritingCurvesCase curves buffer)
     (record { answer = writingAnswer written; length = writtenLength written; buffer = writtenBuffer curves buffer })
 
+-- a curve set's page written into a lent buffer
+abbrev pub WritingPagesIsRefusedFirst : Type 0
+WritingPagesIsRefusedFirst =
+    (curves : CurveSet) (buffer : List ℕ) →
+    Decides (WritingPageCase curves buffer) (record { answer = writingPage curves buffer; buffer = pageBuffer curves buffer })
+
 -- ---- demand 2: every curve set in range has exactly one text
 
 -- write then read gives it back
@@ -62,6 +74,10 @@ CurveTextIsWrittenBack = (text : List ℕ) → readCurves text .answer ≡ answe
 -- a written text has at most 700 bytes
 abbrev pub CurveTextIsShort : Type 0
 CurveTextIsShort = (curves : CurveSet) → length (curves .pairs) ≡ 24 → curvesInRange curves ≡ true → length (curveText curves) ≤ 700
+
+-- a curve set that was read is in range
+abbrev pub ReadCurvesAreInRange : Type 0
+ReadCurvesAreInRange = (text : List ℕ) → readCurves text .answer ≡ answer.Accepted → curvesInRange (readCurves text .set) ≡ true
 
 -- ---- settling
 
@@ -93,3 +109,47 @@ NeverRises probability =
 
 abbrev pub ProbabilitiesNeverRise : Type 0
 ProbabilitiesNeverRise = NeverRises onlineProbability × NeverRises offlineProbability
+
+-- ---- the page of a curve set
+
+-- a page has 24 rows of 72 bytes, the row of group g at 72 × g, whatever the numbers are: a cell is never wider than its column
+abbrev pub PageHasItsRows : Type 0
+PageHasItsRows =
+    (curves : CurveSet) → length (curves .pairs) ≡ 24 →
+    (length (pageOf curves) ≡ 1728)
+    × ((g : ℕ) → g < 24 →
+    let row = pageRow (curves .floor) g (pairOfGroup curves g) in
+    (take 72 (drop (72 * g) (pageOf curves)) ≡ row) × (length row ≡ 72))
+
+-- bytes after the page stay, whether it was written or not
+abbrev pub BytesAfterThePageStay : Type 0
+BytesAfterThePageStay = (curves : CurveSet) (buffer : List ℕ) → length (curves .pairs) ≡ 24 → drop 1728 (pageBuffer curves buffer) ≡ drop 1728 buffer
+
+-- every cell fits its width for every set in range, so no number is ever cut
+abbrev pub PageCellsFit : Type 0
+PageCellsFit =
+    (curves : CurveSet) → length (curves .pairs) ≡ 24 → curvesInRange curves ≡ true → (g : ℕ) → g < 24 →
+    let pair = pairOfGroup curves g in
+    (length (seasonName (groupSeason g)) ≤ 6)
+    × (length (blockCell g) ≡ 1)
+    × (length (writtenNumber (pair .mean)) ≤ 9)
+    × (length (writtenNumber (pair .spread)) ≤ 8)
+    × ((above : ℕ) → length (writtenNumber (pos (probabilityAbove (curves .floor) pair above))) ≤ 10)
+
+-- the row of a month's and an hour's group bears the season's name and the block's digit
+abbrev pub PageRowsBearSeasonAndBlock : Type 0
+PageRowsBearSeasonAndBlock =
+    (month hour : ℕ) → hour ≤ 23 →
+    (seasonCell (groupOf month hour) ≡ paddedRight 6 (seasonName (seasonOf month)))
+    × (blockCell (groupOf month hour) ≡ writtenNumber (pos (blockOf hour)))
+
+-- along a row the four probabilities never rise
+abbrev pub PageProbabilitiesNeverRise : Type 0
+PageProbabilitiesNeverRise =
+    (floor : ℤ) (pair : Pair) →
+    let probability = probabilityAbove floor pair in
+    (probability 2000000 ≤ probability 1000000) × (probability 3000000 ≤ probability 2000000) × (probability 4000000 ≤ probability 3000000)
+
+-- two sets with equal pairs have equal pages, whatever VOLL and X are
+abbrev pub PagesRestOnPairs : Type 0
+PagesRestOnPairs = (curves other : CurveSet) → curves .pairs ≡ other .pairs → pageOf curves ≡ pageOf other

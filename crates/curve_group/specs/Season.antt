@@ -12,3 +12,10 @@ blockOf hour = hour / 4
 -- Group = 6 × season + block
 unfoldable pub groupOf : ℕ → ℕ → ℕ
 groupOf month hour = 6 * seasonOf month + blockOf hour
+
+-- the season and the block of a group
+unfoldable pub groupSeason : ℕ → ℕ
+groupSeason group = group / 6
+
+unfoldable pub groupBlock : ℕ → ℕ
+groupBlock group = group % 6

@@ -1,16 +1,18 @@
 -- The two probabilities: at and below X, above it and far above it; neither exceeds one, and neither rises with the reserve, nor when
 -- the mean falls.
-use mathlib.Core.Path.{_≡_, refl, _∙_}
+use native.Mathlib.Nat.{zero-add}
+use mathlib.Core.List.{List, [], _∷_, map}
+use mathlib.Core.Path.{_≡_, refl, ap, ap₂, _∙_}
 use mathlib.Core.Bool.{Bool, true, false, cond}
 use Prim.Native.Nat.{ℕ, _-_, _*_, _≤_}
 use native.Mathlib.Omega.{arith}
-use lib.IntN.{ℤ, pos, natAbs, _-ℤ_, _*ℤ_}
+use lib.IntN.{ℤ, pos, natAbs, _+ℤ_, _-ℤ_, _*ℤ_}
 use lib.Signed.{leZ, _≤ℤ_, _<ℤ_}
 use Rattle.integer.proofs.Difference.{view, toℕ}
-use Rattle.integer.proofs.Order.{leZ-false, le-leZ, lt-leZ}
+use Rattle.integer.proofs.Order.{leZ-true, leZ-false, le-leZ, lt-leZ}
 use Rattle.normal.specs.Normal.{normal}
 use Rattle.normal.proofs.Order.{normal-full, normal-order}
-use Rattle.curve_probability.specs.Probability.{onlineProbability, offlineProbability}
+use Rattle.curve_probability.specs.Probability.{onlineProbability, offlineProbability, offlineProbabilities}
 
 -- ---- both: one at and below X, else what N leaves of one
 
@@ -109,3 +111,35 @@ offline-never-rises reserve reserve′ floor mean mean′ spread h k =
   where
     numerators : (r r′ x m m′ : ℤ) → r ≤ℤ r′ → m′ ≤ℤ m → (pos 100 *ℤ (r -ℤ x -ℤ m)) ≤ℤ (pos 100 *ℤ (r′ -ℤ x -ℤ m′))
     numerators r r′ x m m′ = rw (view r, view r′, view x, view m, view m′) (simp toℕ (omega arith))
+
+-- ---- what counts is how far the reserve lies above X, not where X lies
+
+pub offline-above : (above floor floor′ mean : ℤ) (spread : ℕ) →
+    offlineProbability (floor +ℤ above) floor mean spread ≡ offlineProbability (floor′ +ℤ above) floor′ mean spread
+unfolding offlineProbability
+offline-above above floor floor′ mean spread =
+    rw (low floor (leZ above (pos 0)) refl, low floor′ (leZ above (pos 0)) refl, numerators floor floor′ above mean)
+  where
+    at-most : (x a : ℤ) → a ≤ℤ pos 0 → (x +ℤ a) ≤ℤ x
+    at-most x a = rw (view x, view a) (simp toℕ (omega arith))
+
+    more : (x a : ℤ) → pos 0 <ℤ a → x <ℤ (x +ℤ a)
+    more x a = rw (view x, view a) (simp toℕ (omega arith))
+
+    low : (x : ℤ) (none : Bool) → leZ above (pos 0) ≡ none → leZ (x +ℤ above) x ≡ none
+    low x true e = le-leZ (at-most x above (leZ-true above (pos 0) e))
+    low x false e = lt-leZ (more x above (leZ-false above (pos 0) e))
+
+    numerators : (x x′ a m : ℤ) → pos 100 *ℤ ((x +ℤ a) -ℤ x -ℤ m) ≡ pos 100 *ℤ ((x′ +ℤ a) -ℤ x′ -ℤ m)
+    numerators x x′ a m = rw (view x, view x′, view a, view m) (simp toℕ (omega arith))
+
+-- piNS at several reserves above X, wherever X lies
+pub offline-many : (above : List ℕ) (floor mean : ℤ) (spread : ℕ) →
+    offlineProbabilities above mean spread ≡ map (λ (distance : ℕ). offlineProbability (floor +ℤ pos distance) floor mean spread) above
+unfolding offlineProbabilities
+offline-many [] floor mean spread = refl
+offline-many (distance ∷ above) floor mean spread =
+    let here : pos 0 +ℤ pos distance ≡ pos distance = ap pos (zero-add distance) in
+    let same : offlineProbability (pos distance) (pos 0) mean spread ≡ offlineProbability (floor +ℤ pos distance) floor mean spread =
+    rw here at (offline-above (pos distance) (pos 0) floor mean spread) in
+    ap₂ _∷_ same (offline-many above floor mean spread)

@@ -1,5 +1,6 @@
 -- Document 01, "The two prices": the probability of reserve falling below the minimum contingency level X, in billionths.
 use Prim.Native.Nat.{ℕ, _-_, _*_}
+use mathlib.Core.List.{List, map}
 use lib.IntN.{ℤ, pos, _-ℤ_, _*ℤ_}
 use lib.Signed.{leZ}
 use Rattle.normal.specs.Normal.{normal}
@@ -18,3 +19,7 @@ offlineProbability reserve floor mean spread =
     cond (leZ reserve floor)
     1000000000
     (1000000000 - normal (pos 100 *ℤ (reserve -ℤ floor -ℤ mean)) spread)
+
+-- piNS at reserves so many kW above X, one after the other. Where X lies does not count, so X is 0 here.
+unfoldable pub offlineProbabilities : List ℕ → ℤ → ℕ → List ℕ
+offlineProbabilities above mean spread = map (λ (distance : ℕ). offlineProbability (pos distance) (pos 0) mean spread) above

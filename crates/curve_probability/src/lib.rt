@@ -1,9 +1,13 @@
 // The probability that the reserve falls below the minimum contingency level X, in billionths.
 ghost use mathlib.Core.Path.{_≡_};
-ghost use Prim.Native.Nat.{_≤_};
+ghost use Prim.Native.Nat.{ℕ, _-_, _≤_};
+ghost use mathlib.Core.Bool.{cond};
+ghost use mathlib.Core.List.{map};
+ghost use lib.Dec.{leb};
 ghost use lib.IntN.{pos, natAbs, _-ℤ_, _*ℤ_};
-ghost use Rattle.curve_probability.specs.Probability.{onlineProbability, offlineProbability};
+ghost use Rattle.curve_probability.specs.Probability.{onlineProbability, offlineProbability, offlineProbabilities};
 use normal::distribution;
+use normal::distributions;
 
 // A reserve above this makes the fraction at least 500 whatever X, the mean and the spread: nothing is left of one.
 const FAR: i64 = 1099511627776;
@@ -52,4 +56,41 @@ pub fn offline_probability(reserve: i64, floor: i32, mean: i32, spread: u32) -> 
     }
     let numerator = offline_numerator(reserve, x, mean as i64);
     1000000000 - distribution(numerator, spread as u64)
+}
+
+// The numerators of piNS at four distances above X.
+fn numerators_above(above: [u32; 4], mean: i64) -> [i64; 4]
+    requires { ⌜ natAbs mean ≤ 2147483648 ⌝ }
+    ensures { λ r. ⌜ r ≡ map (λ (distance : ℕ). pos 100 *ℤ (pos distance -ℤ pos 0 -ℤ mean)) above ⌝ }
+{
+    [
+        offline_numerator(above[0] as i64, 0, mean),
+        offline_numerator(above[1] as i64, 0, mean),
+        offline_numerator(above[2] as i64, 0, mean),
+        offline_numerator(above[3] as i64, 0, mean),
+    ]
+}
+
+// What N leaves of one at a distance above X; at X itself, one.
+fn left_of_one(distance: u32, value: u64) -> u64
+    requires { ⌜ value ≤ 1000000000 ⌝ }
+    ensures { λ r. ⌜ r ≡ cond (leb distance 0) 1000000000 (1000000000 - value) ⌝ }
+{
+    if distance == 0 {
+        return 1000000000;
+    }
+    1000000000 - value
+}
+
+// piNS at four distances above X in kW, with one table for all of them.
+pub fn offline_probabilities(above: [u32; 4], mean: i32, spread: u32) -> [u64; 4]
+    ensures { λ r. ⌜ r ≡ offlineProbabilities above mean spread ⌝ }
+{
+    let n = distributions(numerators_above(above, mean as i64), spread as u64);
+    [
+        left_of_one(above[0], n[0]),
+        left_of_one(above[1], n[1]),
+        left_of_one(above[2], n[2]),
+        left_of_one(above[3], n[3]),
+    ]
 }

@@ -88,6 +88,18 @@ even-values voll floor mean spread = refl
 
 -- ---- a set from its values, and values from their set
 
+pub no-pairs-of : (values : List ℤ) → pairsOf zero values ≡ []
+unfolding pairsOf
+no-pairs-of values = refl
+
+pub more-pairs-of : (n : ℕ) (mean spread : ℤ) (values : List ℤ) → pairsOf (suc n) (mean ∷ spread ∷ values) ≡ record { mean = mean; spread = spread } ∷ pairsOf n values
+unfolding pairsOf
+more-pairs-of n mean spread values = refl
+
+pub set-of-lines : (voll floor : ℤ) (values : List ℤ) → curvesOf (voll ∷ floor ∷ values) ≡ record { voll = voll; floor = floor; pairs = pairsOf 24 values }
+unfolding curvesOf
+set-of-lines voll floor values = refl
+
 pairs-of-values : (n : ℕ) (pairs : List Pair) → length pairs ≡ n → pairsOf n (pairValues pairs) ≡ pairs
 unfolding pairsOf pairValues
 pairs-of-values zero [] l = refl

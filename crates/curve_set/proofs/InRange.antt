@@ -94,10 +94,10 @@ module _ (curves : CurveSet) (e : curvesInRange curves ≡ true) where
 -- ---- how large its values are
 
 -- a pair of a set, and zeros past its end
-abbrev PairSmall : Pair → Type 0
+abbrev pub PairSmall : Pair → Type 0
 PairSmall pair = (natAbs (pair .mean) ≤ 20000000) × (natAbs (pair .spread) ≤ 20000000)
 
-pair-small : (pair : Pair) → pairInRange pair ≡ true → PairSmall pair
+pub pair-small : (pair : Pair) → pairInRange pair ≡ true → PairSmall pair
 pair-small pair e =
     let r = pair-range pair e in (
       abs-bound (pair .mean) 20000000 .1 (lies-low meanRange (pair .mean) (r .mean), lies-high meanRange (pair .mean) (r .mean)),

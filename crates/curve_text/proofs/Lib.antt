@@ -2,3 +2,4 @@
 pub mod CurveText
 pub mod CurveCases
 pub mod CurveFields
+pub mod CurveInRange

@@ -6,10 +6,12 @@ use Rattle.known.specs.Statement.{AllHold}
 use Rattle.known.specs.Probability.{tableValues}
 use Rattle.known.specs.Settling.{settledValues}
 use Rattle.known.specs.Pricing.{pricedValues}
+use Rattle.known.specs.Page.{pageValues}
 use Rattle.known.specs.Known.{allKnownValues}
 use Rattle.known.proofs.Probability.{table-values}
 use Rattle.known.proofs.Settling.{settled-values}
 use Rattle.known.proofs.Pricing.{priced-values}
+use Rattle.known.proofs.Page.{page-values}
 
 map-append : {A B : Type 0} (f : A → B) (xs ys : List A) → map f (xs ++ ys) ≡ map f xs ++ map f ys
 map-append f [] ys = refl
@@ -21,5 +23,5 @@ all-append first second e f = map-append _ first second ∙ ap₂ _++_ e f ∙ s
 
 pub all-known-values : AllHold allKnownValues
 all-known-values =
-    all-append tableValues (settledValues ++ pricedValues) table-values
-    (all-append settledValues pricedValues settled-values priced-values)
+    all-append tableValues (settledValues ++ (pricedValues ++ pageValues)) table-values
+    (all-append settledValues (pricedValues ++ pageValues) settled-values (all-append pricedValues pageValues priced-values page-values))

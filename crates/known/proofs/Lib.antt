@@ -2,6 +2,7 @@
 pub mod Probability
 pub mod Settling
 pub mod Pricing
+pub mod Page
 pub mod Known
 pub mod BookingExamples
 pub mod PriceExamples

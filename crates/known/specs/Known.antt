@@ -1,9 +1,10 @@
--- Document 01, "Known values": all of them in one list.
+-- Document 01, "Known values", and those of document 02: all of them in one list.
 use mathlib.Core.List.{List, _++_}
 use lib.IntN.{ℤ}
 use Rattle.known.specs.Probability.{tableValues}
 use Rattle.known.specs.Settling.{settledValues}
 use Rattle.known.specs.Pricing.{pricedValues}
+use Rattle.known.specs.Page.{pageValues}
 
 abbrev pub allKnownValues : List (List ℤ × List ℤ)
-allKnownValues = tableValues ++ (settledValues ++ pricedValues)
+allKnownValues = tableValues ++ (settledValues ++ (pricedValues ++ pageValues))

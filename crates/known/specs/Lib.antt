@@ -1,6 +1,7 @@
--- Document 01, "Known values" and "Traps": what is computed, what it is to be, and the common statement.
+-- Document 01, "Known values" and "Traps", and document 02: what is computed, what it is to be, and the common statement.
 pub mod Statement
 pub mod Probability
 pub mod Settling
 pub mod Pricing
+pub mod Page
 pub mod Known

@@ -1,3 +1,4 @@
 pub mod Table
 pub mod Order
 pub mod Known
+pub mod Four

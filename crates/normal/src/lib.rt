@@ -1,6 +1,8 @@
 // The normal distribution function N(p) of a fraction p, between the 501 knots of its table.
 ghost use mathlib.Core.Path.{_≡_};
 ghost use Prim.Native.Nat.{suc, _+_, _-_, _*_, _/_, _<_};
+ghost use mathlib.Core.List.{map};
+ghost use lib.IntN.{ℤ};
 ghost use Rattle.normal.specs.Knot.{knot, IsTable};
 ghost use Rattle.normal.specs.Normal.{upper, normal};
 
@@ -80,8 +82,16 @@ fn share(step: u64, rest: u64, denominator: u64) -> u64
     q.whole
 }
 
+// The table, to be lent to as many reads as may be, since it is built anew each time.
+fn table_of_knots() -> [u32; 501]
+    ensures { λ r. ⌜ IsTable r ⌝ }
+{
+    KNOTS
+}
+
 // N(p) for p = numerator / denominator, not below zero.
-fn upper_half(numerator: u64, denominator: u64) -> u64
+fn upper_half(table: &[u32; 501], numerator: u64, denominator: u64) -> u64
+    requires { ⌜ IsTable (now table) ⌝ }
     ensures { λ r. ⌜ r ≡ upper numerator denominator ⌝ }
 {
     if denominator == 0 {
@@ -91,18 +101,39 @@ fn upper_half(numerator: u64, denominator: u64) -> u64
     if 500 <= k {
         return 1000000000;
     }
-    let table = KNOTS;
-    let interval = interval_at(&table, k as usize);
+    let interval = interval_at(table, k as usize);
     interval.low + share(interval.step, numerator % denominator, denominator)
+}
+
+// N(p) for p = numerator / denominator.
+fn both_halves(table: &[u32; 501], numerator: i64, denominator: u64) -> u64
+    requires { ⌜ IsTable (now table) ⌝ }
+    ensures { λ r. ⌜ r ≡ normal numerator denominator ⌝ }
+{
+    let value = upper_half(table, magnitude(numerator), denominator);
+    if numerator < 0 {
+        return 1000000000 - value;
+    }
+    value
 }
 
 // N(p) for p = numerator / denominator, in billionths. A denominator of 0 counts as p at or beyond 500 on its side.
 pub fn distribution(numerator: i64, denominator: u64) -> u64
     ensures { λ r. ⌜ r ≡ normal numerator denominator ⌝ }
 {
-    let value = upper_half(magnitude(numerator), denominator);
-    if numerator < 0 {
-        return 1000000000 - value;
-    }
-    value
+    let table = table_of_knots();
+    both_halves(&table, numerator, denominator)
+}
+
+// N(p) for four numerators over one denominator, with one table for all of them.
+pub fn distributions(numerators: [i64; 4], denominator: u64) -> [u64; 4]
+    ensures { λ r. ⌜ r ≡ map (λ (numerator : ℤ). normal numerator denominator) numerators ⌝ }
+{
+    let table = table_of_knots();
+    [
+        both_halves(&table, numerators[0], denominator),
+        both_halves(&table, numerators[1], denominator),
+        both_halves(&table, numerators[2], denominator),
+        both_halves(&table, numerators[3], denominator),
+    ]
 }

@@ -9,9 +9,10 @@ use lib.Dec.{eqb}
 use Rattle.text_refusal.specs.declared.answer.Answer.{Answer}
 use Rattle.text_refusal.specs.declared.answer.Answer.the-variants as answer
 use Rattle.curve_text.specs.CurveText.{readCurves, writingCurves, writingAnswer}
+use Rattle.curve_page.specs.Page.{writingPage}
 use Rattle.curve_settling.specs.Settle.{settled}
 use Rattle.curve_booking.specs.Booking.{booked}
-use Rattle.curve.proofs.Numbered.{AnswerNumbered, booked-numbered, settled-numbered, AnswerListed, curves-listed, writing-numbered}
+use Rattle.curve.proofs.Numbered.{AnswerNumbered, booked-numbered, settled-numbered, AnswerListed, curves-listed, writing-numbered, page-numbered}
 use Rattle.pricing.specs.Pricing.{priced}
 use Rattle.pricing.proofs.Numbered.{PricingListed, pricing-listed}
 use Rattle.pricing_adder.specs.declared.price.Pricing.{Pricing}
@@ -41,5 +42,6 @@ refusals-are-numbered =
       settling = λ history voll floor. numbered (settled history voll floor .answer) (settled-numbered history voll floor);
       reading = λ text. listed text (readCurves text .answer) (curves-listed text);
       writing = λ curves buffer. numbered (writingAnswer (writingCurves curves buffer)) (writing-numbered curves buffer);
+      page = λ curves buffer. numbered (writingPage curves buffer) (page-numbered curves buffer);
       pricing = λ curves text. listed-pricing text (priced curves text) (pricing-listed curves text);
     }

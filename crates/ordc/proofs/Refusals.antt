@@ -9,6 +9,7 @@ use Rattle.text_refusal.specs.declared.answer.Answer.{Answer}
 use Rattle.text_refusal.specs.declared.answer.Answer.the-variants as answer
 use Rattle.curve_set.specs.declared.CurveSet.{CurveSet}
 use Rattle.curve_text.specs.CurveText.{readCurves, writingCurves, writingAnswer, writtenBuffer}
+use Rattle.curve_page.specs.Page.{writingPage}
 use Rattle.curve.specs.FirstRefusal.{Writing, WritingCurvesCase, set-impossible, buffer-short, text-written}
 use Rattle.curve.proofs.FirstRefusal.{writing-curves-is-refused-first}
 use Rattle.curve_settling.specs.Settle.{settled}
@@ -17,7 +18,7 @@ use Rattle.pricing.specs.Pricing.{priced}
 use Rattle.ordc.specs.Reply.{replyTo, Answered}
 use Rattle.ordc.specs.Record.{recordOf}
 use Rattle.ordc.specs.Price.{pricingAnswer}
-use Rattle.ordc.specs.Promises.{Numbered, CallEnds, BookCallIsRefusedFirst, SettleCallIsRefusedFirst, ReadCurvesCallIsRefusedFirst, WriteCurvesCallIsRefusedFirst, PriceCallIsRefusedFirst}
+use Rattle.ordc.specs.Promises.{Numbered, CallEnds, BookCallIsRefusedFirst, SettleCallIsRefusedFirst, ReadCurvesCallIsRefusedFirst, WriteCurvesCallIsRefusedFirst, WritePageCallIsRefusedFirst, PriceCallIsRefusedFirst}
 use Rattle.ordc.specs.declared.reply.Reply.{Reply}
 use Rattle.ordc.proofs.Calls.{Ended, ended-accepted, ended-refused, ended-by}
 use Rattle.ordc.proofs.Numbered.{refusals-are-numbered}
@@ -68,6 +69,9 @@ write-curves-call-is-refused-first values buffer buffer′ before after r called
         numbered = count .numbered;
       },
     )
+
+pub write-page-call-is-refused-first : WritePageCallIsRefusedFirst
+write-page-call-is-refused-first values before after r called = call-ends (writingPage (curvesOf values) before) (refusals-are-numbered .page (curvesOf values) before) called
 
 pub price-call-is-refused-first : PriceCallIsRefusedFirst
 price-call-is-refused-first curves before after text r called =

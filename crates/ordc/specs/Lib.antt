@@ -2,6 +2,7 @@
 pub mod Reply
 pub mod Record
 pub mod CurveText
+pub mod Page
 pub mod Price
 pub mod Calls
 pub mod Promises

@@ -15,6 +15,7 @@ use Rattle.text_refusal.specs.declared.answer.Answer.{Answer}
 use Rattle.text_refusal.specs.declared.answer.Answer.the-variants as answer
 use Rattle.curve_text.specs.CurveText.{readCurves, writingCurves, writingAnswer, writtenLength, writtenBuffer}
 use Rattle.curve_text.specs.declared.WrittenCurves.{WrittenCurves}
+use Rattle.curve_page.specs.Page.{writingPage, pageBuffer}
 use Rattle.curve_record.specs.Possible.{recordPossible}
 use Rattle.curve_record.specs.declared.Record.{Record}
 use Rattle.curve_settling.specs.Settle.{settled}
@@ -28,6 +29,7 @@ use Rattle.pricing.specs.Pricing.{priced}
 use Rattle.pricing.specs.Promises.{SnapshotRaised}
 use Rattle.ordc.specs.Record.{recordOf, recordValues, BookCalled, SettleCalled}
 use Rattle.ordc.specs.CurveText.{ReadCurvesCalled, WriteCurvesCalled}
+use Rattle.ordc.specs.Page.{WritePageCalled}
 use Rattle.ordc.specs.Price.{pricingAnswer, PriceCalled, onlinePrice, offlinePrice}
 use Rattle.ordc.specs.Calls.{Accepted, HistoryPriced, BookCallsLowered}
 use Rattle.ordc.specs.declared.reply.Reply.{Reply}
@@ -63,6 +65,7 @@ pub record RefusalsAreNumbered : Type 0 where
   pub settling : (history : Record) (voll floor : ℤ) → Numbered (settled history voll floor .answer)
   pub reading : (text : List ℕ) → Numbered (readCurves text .answer)
   pub writing : (curves : CurveSet) (buffer : List ℕ) → Numbered (writingAnswer (writingCurves curves buffer))
+  pub page : (curves : CurveSet) (buffer : List ℕ) → Numbered (writingPage curves buffer)
   pub pricing : (curves : CurveSet) (text : List ℕ) → Numbered (pricingAnswer (priced curves text))
 
 -- how a call ends, by the answer of the operation that it calls: the refusal first in document 01's order, or none; nothing else is refused
@@ -101,6 +104,12 @@ WriteCurvesCallIsRefusedFirst =
     let ended : WrittenCurves = writingCurves (curvesOf values) buffer in
     CallEnds (writingAnswer ended) before (writtenLength ended) after r
     × CallEnds (writingAnswer ended) buffer (writtenBuffer (curvesOf values) buffer) buffer′ r
+
+-- `ordc_write_page` is refused as the writing of the page is, and then leaves the buffer
+abbrev pub WritePageCallIsRefusedFirst : Type 0
+WritePageCallIsRefusedFirst =
+    (values : List ℤ) (before after : List ℕ) (r : Reply) → WritePageCalled values before after r →
+    CallEnds (writingPage (curvesOf values) before) before (pageBuffer (curvesOf values) before) after r
 
 -- `ordc_price` is refused as the pricing is, and then leaves the answer
 abbrev pub PriceCallIsRefusedFirst : Type 0

@@ -1,5 +1,5 @@
 -- A text that fits its buffer is printed whole.
-use Prim.Native.Nat.{ℕ, _+_, _≤_, _<_, _^_}
+use Prim.Native.Nat.{ℕ, _+_, _≤_}
 use mathlib.Core.Path.{_≡_, refl, sym, ap, _∙_}
 use mathlib.Core.Bool.{Bool, true, false, cond}
 use mathlib.Core.List.{List, [], _∷_, map}
@@ -11,11 +11,8 @@ use lib.ListN.{length, drop, length-append, length-map}
 use lib.Seq.{take-at}
 use Rattle.text_refusal.specs.declared.refusal.Refusal.{Refusal}
 use Rattle.text_writer.specs.Write.{TextWritten}
-use Rattle.text_writer.specs.Output.{refusalLines}
 use Rattle.text_writer.specs.declared.Written.{Written}
 use Rattle.text_writer.specs.declared.Written.the-variants as written
-use Rattle.text_number.proofs.WrittenDigits.{twenty-digits}
-use Rattle.text_writer.proofs.Refused.{refusal-length}
 use Rattle.curve_set.specs.Curves.{curvesInRange}
 use Rattle.curve_text.specs.CurveText.{curveText, CurvesWritten}
 use Rattle.curve_text.proofs.CurveCases.{text-written, text-laid}
@@ -29,11 +26,6 @@ use Rattle.curve.proofs.Promises.{settled-curves-are-in-range, settled-length}
 use Rattle.program_curves.specs.Program.{lastHour, settledText}
 use Rattle.program_curves.specs.Stream.{Printed}
 use Rattle.program_curves.specs.Promises.{PrintedTextStandsWhole}
-
--- a refusal is short
-pub refusal-short : (found : Refusal) (name : List ℕ) → found .number < 2 ^ 64 → found .line < 2 ^ 64 → length name ≤ 6 → length (refusalLines found name) ≤ 768
-refusal-short found name number line short =
-    omega (arith, refusal-length found name, twenty-digits (found .number) number, twenty-digits (found .line) line)
 
 module _ (text before after : List ℕ) (w : Written) (short : length text ≤ length before) (is : TextWritten text before 0 after w) where
   ended : w ≡ written.Ended (length text)

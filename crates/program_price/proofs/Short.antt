@@ -13,9 +13,9 @@ use Rattle.text_refusal.specs.declared.refusal.Refusal.{Refusal}
 use Rattle.text_number.specs.Number.{writtenNumber}
 use Rattle.text_writer.specs.Write.{writtenNumbers}
 use Rattle.text_writer.specs.Output.{refusalLines}
-use Rattle.text_number.proofs.WrittenDigits.{twenty-digits, written-within}
+use Rattle.text_number.proofs.WrittenDigits.{written-within}
 use Rattle.text_schema.proofs.Fields.{keys-computed}
-use Rattle.text_writer.proofs.Refused.{refusal-length}
+use Rattle.text_writer.proofs.Refused.{refusal-short}
 use Rattle.curve_set.specs.declared.CurveSet.{CurveSet}
 use Rattle.text_refusal.specs.declared.answer.Answer.{Answer}
 use Rattle.text_refusal.specs.declared.answer.Answer.the-variants as answer
@@ -57,9 +57,9 @@ prices-short p small =
       number-short (pos (p .offline)) (omega (arith, small .offline)),
     )
 
-refusal-short : {text : List ℕ} (found : Refusal) (name : List ℕ) → Listed text found → length text ≤ 65536 → length name ≤ 8 → length (refusalLines found name) ≤ 256
-refusal-short found name small within short =
-    omega (arith, refusal-length found name, twenty-digits (found .number) (omega (arith, small .most)), twenty-digits (found .line) (omega (arith, small .line)))
+-- of a text that is no longer than the input
+listed-short : {text : List ℕ} (found : Refusal) (name : List ℕ) → Listed text found → length text ≤ 65536 → length name ≤ 8 → length (refusalLines found name) ≤ 256
+listed-short found name small within short = refusal-short found name (omega (arith, small .most)) (omega (arith, small .line)) short
 
 -- ---- the output
 
@@ -73,7 +73,7 @@ snapshot-part-within input = omega (arith, length-drop (suc (beforeEmptyLine tru
 
 priced-short : (text : List ℕ) → length text ≤ 65536 → (p : Pricing) → SmallPricing p → PricingListed text p → length (printedPrices p) ≤ 256
 priced-short text within (pricing.Priced p) small refused = prices-short p small
-priced-short text within (pricing.Refused found) small refused = refusal-short found (bytes "snapshot") refused within (omega arith)
+priced-short text within (pricing.Refused found) small refused = listed-short found (bytes "snapshot") refused within (omega arith)
 
 pub price-output-is-short : PriceOutputIsShort
 unfolding priceOutput
@@ -88,10 +88,10 @@ price-output-is-short input = go (ltb 65536 (length input)) refl
     by-curves : length input ≤ 65536 → (a : Answer) → AnswerListed (curvePart input) a → length (onCurves curves a snapshot) ≤ 256
     by-curves within answer.Accepted small =
         priced-short snapshot (omega (arith, snapshot-part-within input)) (priced curves snapshot) (priced-small curves snapshot) (pricing-listed curves snapshot)
-    by-curves within (answer.Refused found) small = refusal-short found (bytes "curves") small (omega (arith, curve-part-within input)) (omega arith)
+    by-curves within (answer.Refused found) small = listed-short found (bytes "curves") small (omega (arith, curve-part-within input)) (omega arith)
 
     go :
         (long : Bool) → ltb 65536 (length input) ≡ long →
         length (cond long (refusalLines (record { number = 2; line = 0 }) (bytes "curves")) (onCurves curves (readCurves (curvePart input) .answer) snapshot)) ≤ 256
-    go true e = refusal-short {text = []} (record { number = 2; line = 0 }) (bytes "curves") (record { least = omega arith; most = omega arith; line = omega arith }) (omega arith) (omega arith)
+    go true e = refusal-short (record { number = 2; line = 0 }) (bytes "curves") (omega arith) (omega arith) (omega arith)
     go false e = by-curves (ltb-false 65536 (length input) e) (readCurves (curvePart input) .answer) (curves-listed (curvePart input))

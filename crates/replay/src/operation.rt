@@ -11,10 +11,13 @@ use ordc::read_curves::ordc_read_curves;
 use ordc::reply::Reply;
 use ordc::settle::ordc_settle;
 use ordc::write_curves::ordc_write_curves;
+use ordc::write_page::ordc_write_page;
 use program_curves::input::feed;
 use program_curves::output::finish;
+use program_page::page_text;
 use program_price::price_text;
 use text_line::piece::part;
+use text_line::piece::piece_end;
 use text_writer::Written;
 
 // The arrays that an operation is lent are shown on a refusal too, where they have to stand as before.
@@ -68,6 +71,15 @@ fn write(fd: i32, text: &mut [u8]) {
     show_count(checksum(text));
 }
 
+// The text is the buffer that a page is written to. Every page has the same length, so that none is given back.
+fn write_page(fd: i32, text: &mut [u8]) {
+    let mut curves = [0i64; 50];
+    read_numbers(fd, &mut curves);
+    let refusal = ordc_write_page(&curves, text);
+    show_answer(refusal, &[]);
+    show_count(checksum(text));
+}
+
 fn show_prices(refusal: Reply, prices: &[i64; 6]) {
     show_answer(refusal, prices);
 }
@@ -80,16 +92,19 @@ fn price(fd: i32, text: &[u8]) {
     show_prices(refusal, &prices);
 }
 
-// The lines that a program prints, a space for the end of each.
-fn show_printed(output: &mut [u8; 768], length: usize) {
-    let mut i: usize = 0;
-    while i < 768 {
-        if output[i] == 10 {
-            output[i] = 32;
+// The lines that a program prints, a space for the end of each. Bytes that no line end follows are shown too, so that none is hidden.
+fn show_printed(output: &[u8]) {
+    let mut from: usize = 0;
+    while from < output.len() {
+        let next = piece_end(output, from, 10);
+        if next <= from {
+            show(part(output, from, output.len()));
+            return;
         }
-        i += 1;
+        show(part(output, from, next - 1));
+        show(b" ");
+        from = next;
     }
-    show(part(output, 0, length));
 }
 
 // The program `price` on an input.
@@ -99,7 +114,22 @@ fn run_price(input: &[u8]) {
     let Written::Ended { next } = written else {
         return;
     };
-    show_printed(&mut output, next);
+    show_printed(part(&output, 0, next));
+}
+
+// The program `page` on an input.
+fn run_page(input: &[u8]) {
+    let mut output = [0u8; 1728];
+    let written = page_text(input, &mut output);
+    let Written::Ended { next } = written else {
+        return;
+    };
+    show_printed(part(&output, 0, next));
+}
+
+// So many bytes of the space that `curves` prints from.
+fn show_front(output: &[u8; 768], length: usize) {
+    show_printed(part(output, 0, length));
 }
 
 // The program `curves` on an input in two parts.
@@ -110,12 +140,12 @@ fn run_curves(fd: i32, input: &[u8]) {
     let ended = feed(begun, &mut buffer, part(input, first, input.len()));
     let mut output = [0u8; 768];
     let length = finish(ended, &buffer, &mut output);
-    show_printed(&mut output, length);
+    show_front(&output, length);
 }
 
 // The operation whose number follows in the file.
 pub(crate) fn operate(fd: i32, text: &mut [u8]) {
-    let operation = read_count(fd, 6);
+    let operation = read_count(fd, 8);
     match operation {
         0 => book(fd, text),
         1 => settle(fd),
@@ -123,6 +153,8 @@ pub(crate) fn operate(fd: i32, text: &mut [u8]) {
         3 => write(fd, text),
         4 => price(fd, text),
         5 => run_price(text),
-        _ => run_curves(fd, text),
+        6 => run_curves(fd, text),
+        7 => write_page(fd, text),
+        _ => run_page(text),
     }
 }

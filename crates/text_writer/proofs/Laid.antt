@@ -6,7 +6,7 @@ use native.Mathlib.Omega.{arith}
 use mathlib.Core.List.{List, [], _∷_, _++_, append-assoc, append-nil}
 use mathlib.Core.Path.{_≡_, sym, ap, _∙_}
 use lib.ListN.{length, take, drop, getD, set, length-append, length-drop, take-append-drop}
-use lib.Seq.{length-take-le, take-at, drop-at, take-append-le, take-take, drop-drop, drop-append-add, set-split, take-suc, take-set-le, drop-set-lt}
+use lib.Seq.{length-take-le, take-at, drop-at, take-append-le, take-take, drop-drop, drop-append-add, set-split, take-suc}
 use Rattle.text_writer.specs.Write.{laidAt, TextLaid}
 
 pub laid-none : (buffer : List ℕ) (at : ℕ) → laidAt buffer at [] ≡ buffer
@@ -60,14 +60,6 @@ laid-both {buffer} {middle} {after} {at} {next} {last} {one} {other} first then 
       ends = omega (arith, first .ends, then .ends, length-append one other);
       bytes = then .bytes ∙ rw (first .ends, first .bytes) (laid-then buffer at one room other);
     }
-
--- a text laid over one byte, and behind it
-pub laid-over : (buffer : List ℕ) (at byte : ℕ) (text : List ℕ) → 0 < length text → laidAt (set buffer at byte) at text ≡ laidAt buffer at text
-laid-over buffer at byte text some = rw (take-set-le at buffer at byte (omega arith), drop-set-lt (at + length text) buffer at byte (omega arith))
-
-pub laid-first : (buffer : List ℕ) (at byte : ℕ) (text : List ℕ) → at < length buffer → laidAt (set buffer at byte) (at + 1) text ≡ laidAt buffer at (byte ∷ text)
-laid-first buffer at byte text within =
-    ap (λ (bytes : List ℕ). laidAt bytes (at + 1) text) (laid-byte buffer at byte within) ∙ laid-then buffer at (byte ∷ []) (omega arith) text
 
 -- one byte more of some bytes
 pub laid-next : (buffer : List ℕ) (at : ℕ) (bytes : List ℕ) (i : ℕ) → i < length bytes → at + length bytes ≤ length buffer → set (laidAt buffer at (take i bytes)) (at + i) (getD bytes i 0) ≡ laidAt buffer at (take (i + 1) bytes)

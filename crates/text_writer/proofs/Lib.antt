@@ -3,3 +3,4 @@ pub mod Laid
 pub mod Writing
 pub mod Refused
 pub mod BySchema
+pub mod Rows

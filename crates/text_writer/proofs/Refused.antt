@@ -2,14 +2,14 @@
 use mathlib.Core.Bool.{false}
 use mathlib.Core.List.{List, [], _∷_, _++_}
 use mathlib.Core.Path.{_≡_, ap}
-use Prim.Native.Nat.{ℕ, _+_}
+use Prim.Native.Nat.{ℕ, _+_, _^_, _≤_, _<_}
 use native.Mathlib.Omega.{arith}
 use lib.IntN.{pos}
 use lib.ListN.{length, length-append}
 use Rattle.text_refusal.specs.Bytes.{bytes}
 use Rattle.text_refusal.specs.declared.refusal.Refusal.{Refusal}
 use Rattle.text_number.specs.Number.{digitsOf}
-use Rattle.text_number.proofs.WrittenDigits.{written-natural}
+use Rattle.text_number.proofs.WrittenDigits.{twenty-digits, written-natural}
 use Rattle.text_writer.specs.internal.Signed.{signedLine}
 use Rattle.text_writer.specs.Output.{refusalLines}
 use Rattle.text_writer.specs.Write.{writtenLine}
@@ -38,3 +38,8 @@ pub refusal-signed : (found : Refusal) (name : List ℕ) →
     refusalLines found name ≡ signedLine (bytes "refused=") false (found .number) ++ (signedLine (bytes "line=") false (found .line) ++ (bytes "text=" ++ (name ++ (10 ∷ []))))
 unfolding refusalLines
 refusal-signed found name = rw (written-natural (found .number), written-natural (found .line))
+
+-- how long they can be at most
+pub refusal-short : (found : Refusal) (name : List ℕ) → found .number < 2 ^ 64 → found .line < 2 ^ 64 → length name ≤ 8 → length (refusalLines found name) ≤ 256
+refusal-short found name number line short =
+    omega (arith, refusal-length found name, twenty-digits (found .number) number, twenty-digits (found .line) line)

@@ -1,5 +1,5 @@
 -- Laws of the writing loops: digits laid from the last to the first, and lines one after the other.
-use Prim.Native.Nat.{ℕ, _+_, _-_, _/_, _%_, _≤_, _<_}
+use Prim.Native.Nat.{ℕ, suc, _+_, _-_, _/_, _%_, _≤_, _<_}
 use native.Mathlib.Numerals.{add-one}
 use native.Mathlib.Omega.{arith}
 use mathlib.Core.Bool.{Bool, true, false, cond}
@@ -9,24 +9,24 @@ use lib.IntN.{ℤ, pos, negsuc, natAbs}
 use lib.Dec.{leb, le→leb}
 use lib.Signed.{ltZ, leZ-yes, <ℤ-irrefl, <ℤ-≤ℤ-trans}
 use lib.ListN.{length, take, drop, getD, set, length-append, length-set, length-drop, drop-of-length-le}
-use lib.Seq.{drop-cons, length-take-le, take-at}
+use lib.Seq.{drop-cons, drop-at, length-take-le, take-at}
 use mir.Val.{boolByte}
 use borrow.Author.Tests.{le-leb, lt-leb, leb-true}
 use Rattle.integer.proofs.Order.{ltZ-true, ltZ-false}
 use Rattle.text_number.specs.Number.{digitsOf, writtenNumber}
 use Rattle.text_line.specs.Piece.{part, pieceLength}
 use Rattle.text_schema.specs.Schema.{keysOf}
-use Rattle.text_writer.specs.internal.Signed.{signOf, lastOf, signedLine}
+use Rattle.text_writer.specs.internal.Signed.{signOf, signed, signedLine, cutTo}
 use Rattle.text_writer.specs.Write.{laidAt, writtenLine, writtenNumbers, TextLaid, TextWritten}
 use Rattle.text_writer.specs.declared.Written.{Written}
 use Rattle.text_writer.specs.declared.Written.the-variants as written
-use Rattle.text_number.proofs.WrittenDigits.{digits-one, digits-more, count-one, count-more, digits-some, written-natural, written-below}
+use Rattle.text_number.proofs.WrittenDigits.{digits-one, digits-more, written-natural, written-below}
 use Rattle.text_line.proofs.Pieces.{piece-none, piece-next, piece-fits}
-use Rattle.text_writer.proofs.Laid.{laid-none, laid-byte, laid-before, laid-behind, laid-less, laid-over, laid-first}
+use Rattle.text_writer.proofs.Laid.{laid-none, laid-behind, laid-less}
 
 -- ---- a number by its sign and magnitude
 
-pub written-signed : (z : ℤ) (negative : Bool) → ltZ z (pos 0) ≡ negative → writtenNumber z ≡ signOf negative ++ digitsOf (natAbs z)
+pub written-signed : (z : ℤ) (negative : Bool) → ltZ z (pos 0) ≡ negative → writtenNumber z ≡ signed negative (natAbs z)
 written-signed (pos n) true e = absurd (<ℤ-irrefl (<ℤ-≤ℤ-trans (ltZ-true (pos n) (pos 0) e) (leZ-yes (le→leb 0 n (omega arith)))))
 written-signed (pos n) false e = written-natural n
 written-signed (negsuc n) true e = written-below n
@@ -36,67 +36,100 @@ pub sign-length : (negative : Bool) → length (signOf negative) ≡ boolByte ne
 sign-length true = refl
 sign-length false = refl
 
--- the digits of a number with byte 10
-pub last-some : (n : ℕ) → 0 < length (lastOf n)
-last-some n = omega (arith, length-append (digitsOf n) (10 ∷ []))
+-- ---- the last bytes of a text
+
+pub cut-length : (count : ℕ) (text : List ℕ) → length (cutTo count text) ≡ length text - (length text - count)
+cut-length count text = length-drop (length text - count) text
+
+-- a text that is no longer stands whole
+pub cut-none : (count : ℕ) (text : List ℕ) → length text ≤ count → cutTo count text ≡ text
+cut-none count text fits = let none : length text - count ≡ 0 = omega arith in rw none
 
 -- ---- digits, the last one first
 
--- the digits of `rest` are left to lay before `end`; those behind them are laid
-pub record DigitsLeft (buffer₀ : List ℕ) (at n : ℕ) (buffer : List ℕ) (rest end : ℕ) : Type 0 where
+-- `done` is laid from `first` on; the digits of `rest` are left to lay before it
+pub record DigitsLeft (buffer₀ : List ℕ) (start end n : ℕ) (buffer : List ℕ) (rest first : ℕ) : Type 0 where
   pub done : List ℕ
   pub whole : digitsOf n ≡ digitsOf rest ++ done
-  pub place : end ≡ at + length (digitsOf rest)
-  pub laid : buffer ≡ laidAt buffer₀ end done
+  pub place : first + length done ≡ end
+  pub above : start ≤ first
+  pub laid : buffer ≡ laidAt buffer₀ first done
   pub long : length buffer ≡ length buffer₀
 
-pub digits-start : (buffer : List ℕ) (at n end : ℕ) → end ≡ at + length (digitsOf n) → DigitsLeft buffer at n buffer n end
-digits-start buffer at n end e = record { done = []; whole = sym (append-nil (digitsOf n)); place = e; laid = sym (laid-none buffer end); long = refl }
+pub digits-start : (buffer : List ℕ) (start end n : ℕ) → start ≤ end → DigitsLeft buffer start end n buffer n end
+digits-start buffer start end n h =
+    record { done = []; whole = sym (append-nil (digitsOf n)); place = omega arith; above = h; laid = sym (laid-none buffer end); long = refl }
 
-module _ {buffer₀ : List ℕ} {at n : ℕ} {buffer : List ℕ} {rest end : ℕ} (left : DigitsLeft buffer₀ at n buffer rest end) (room : at + length (digitsOf n) ≤ length buffer₀) where
+module _ {buffer₀ : List ℕ} {start end n : ℕ} {buffer : List ℕ} {rest first : ℕ} (left : DigitsLeft buffer₀ start end n buffer rest first) (room : end ≤ length buffer₀) where
   total : length (digitsOf n) ≡ length (digitsOf rest) + length (left .done)
   total = ap length (left .whole) ∙ length-append (digitsOf rest) (left .done)
 
-  pub digits-fit : (at < end) × (end ≤ length buffer)
-  digits-fit = omega (arith, left .place, left .long, total, digits-some rest)
+  pub digits-fit : first ≤ length buffer
+  digits-fit = omega (arith, left .place, left .long)
 
-  pub digits-left : 10 ≤ rest → DigitsLeft buffer₀ at n (set buffer (end - 1) (48 + rest % 10)) (rest / 10) (end - 1)
-  digits-left l =
-      let count : length (digitsOf rest) ≡ length (digitsOf (rest / 10)) + 1 = count-more rest l in
-      let before : end ≡ end - 1 + 1 = omega (arith, left .place) in
+  -- one digit more
+  one-laid : start < first → set buffer (first - 1) (48 + rest % 10) ≡ laidAt buffer₀ (first - 1) ((48 + rest % 10) ∷ left .done)
+  one-laid h =
+      let before : first ≡ first - 1 + 1 = omega arith in
+      ap (λ (bytes : List ℕ). set bytes (first - 1) (48 + rest % 10)) (left .laid ∙ ap (λ (k : ℕ). laidAt buffer₀ k (left .done)) before) ∙
+      laid-less buffer₀ (first - 1) (left .done) (48 + rest % 10) (omega (arith, left .place))
+
+  pub digits-left : start < first → 10 ≤ rest → DigitsLeft buffer₀ start end n (set buffer (first - 1) (48 + rest % 10)) (rest / 10) (first - 1)
+  digits-left h l =
       record {
         done = (48 + rest % 10) ∷ left .done;
         whole = left .whole ∙ rw (digits-more rest l) (append-assoc (digitsOf (rest / 10)) ((48 + rest % 10) ∷ []) (left .done));
         place = omega (arith, left .place);
-        laid =
-            ap (λ (bytes : List ℕ). set bytes (end - 1) (48 + rest % 10)) (left .laid ∙ ap (λ (k : ℕ). laidAt buffer₀ k (left .done)) before) ∙
-            laid-less buffer₀ (end - 1) (left .done) (48 + rest % 10) (omega (arith, left .place, total));
+        above = omega arith;
+        laid = one-laid h;
         long = simp length-set (left .long);
       }
 
-  pub digits-end : rest / 10 ≡ 0 → set buffer (end - 1) (48 + rest % 10) ≡ laidAt buffer₀ at (digitsOf n)
-  digits-end over =
-      let count : length (digitsOf rest) ≡ 1 = count-one rest (omega arith) in
-      let first : end - 1 ≡ at = omega (arith, left .place) in
+  -- the first digit
+  pub digits-end : start < first → rest / 10 ≡ 0 → TextLaid (cutTo (end - start) (digitsOf n)) buffer₀ (first - 1) (set buffer (first - 1) (48 + rest % 10)) end
+  digits-end h over =
       let digit : rest % 10 ≡ rest = omega arith in
-      let place : end ≡ at + 1 = omega (arith, left .place) in
-      rw (first, digit)
-      (ap (λ (bytes : List ℕ). set bytes at (48 + rest)) (left .laid ∙ ap (λ (k : ℕ). laidAt buffer₀ k (left .done)) place) ∙
-      laid-less buffer₀ at (left .done) (48 + rest) (omega (arith, left .place, total)) ∙
-      ap (laidAt buffer₀ at) (sym (left .whole ∙ rw (digits-one rest (omega arith)))))
+      let all : (48 + rest % 10) ∷ left .done ≡ digitsOf n = sym (left .whole ∙ rw (digits-one rest (omega arith), digit)) in
+      let count : length (digitsOf n) ≡ length (left .done) + 1 = omega (arith, ap length all) in
+      rw (cut-none (end - start) (digitsOf n) (omega (arith, left .place, left .above)))
+      (record { ends = omega (arith, left .place); bytes = one-laid h ∙ ap (laidAt buffer₀ (first - 1)) all })
 
--- byte 10 is laid first, the digits before it
-pub digits-ended : (buffer : List ℕ) (at n : ℕ) → at + length (lastOf n) ≤ length buffer → laidAt (set buffer (at + length (digitsOf n)) 10) at (digitsOf n) ≡ laidAt buffer at (lastOf n)
-digits-ended buffer at n room =
-    let long : length (lastOf n) ≡ length (digitsOf n) + 1 = length-append (digitsOf n) (10 ∷ []) in
-    rw (laid-byte buffer (at + length (digitsOf n)) 10 (omega arith)) (laid-before buffer at (digitsOf n) (omega arith) (10 ∷ []))
+  -- no place is left
+  pub digits-cut : first ≤ start → TextLaid (cutTo (end - start) (digitsOf n)) buffer₀ first buffer end
+  digits-cut h =
+      let last : cutTo (end - start) (digitsOf n) ≡ left .done =
+      rw (left .whole) (drop-at (digitsOf rest) (left .done) (length (digitsOf rest ++ left .done) - (end - start)) (omega (arith, left .place, left .above, length-append (digitsOf rest) (left .done)))) in
+      rw last (record { ends = omega (arith, left .place); bytes = left .laid })
 
--- the byte of the sign is laid first, the digits behind it or over it
-pub digits-signed : (negative : Bool) (n : ℕ) {buffer after : List ℕ} {at next : ℕ} → TextLaid (lastOf n) (set buffer at 45) (at + boolByte negative) after next → at < length buffer → TextLaid (signOf negative ++ lastOf n) buffer at after next
-digits-signed true n {buffer} {after} {at} laid within = record { ends = omega (arith, laid .ends); bytes = laid .bytes ∙ laid-first buffer at 45 (lastOf n) within }
-digits-signed false n {buffer} {after} {at} laid within =
-    let place : at + 0 ≡ at = omega arith in
-    record { ends = omega (arith, laid .ends); bytes = laid .bytes ∙ rw place (laid-over buffer at 45 (lastOf n) (last-some n)) }
+-- ---- the sign before the digits
+
+module _ (n : ℕ) {buffer after : List ℕ} {start end first : ℕ} (laid : TextLaid (cutTo (end - start) (digitsOf n)) buffer first after end) (inside : start ≤ end) where
+  -- no place is left for it
+  pub sign-cut : first ≤ start → TextLaid (cutTo (end - start) (signed true n)) buffer first after end
+  sign-cut h =
+      let full : length (digitsOf n) - (length (digitsOf n) - (end - start)) ≡ end - first = omega (arith, laid .ends, cut-length (end - start) (digitsOf n)) in
+      let one : suc (length (digitsOf n)) - (end - start) ≡ suc (length (digitsOf n) - (end - start)) = omega arith in
+      rw one laid
+
+  pub sign-laid : start < first → end ≤ length buffer → TextLaid (cutTo (end - start) (signed true n)) buffer (first - 1) (set after (first - 1) 45) end
+  sign-laid h room =
+      let short : length (digitsOf n) < end - start = omega (arith, laid .ends, cut-length (end - start) (digitsOf n)) in
+      let digits : cutTo (end - start) (digitsOf n) ≡ digitsOf n = cut-none (end - start) (digitsOf n) (omega arith) in
+      let before : first ≡ first - 1 + 1 = omega arith in
+      rw (cut-none (end - start) (signed true n) (omega arith))
+      (record {
+        ends = omega (arith, laid .ends, ap length digits);
+        bytes =
+            ap (λ (bytes : List ℕ). set bytes (first - 1) 45) (laid .bytes ∙ ap (laidAt buffer first) digits ∙ ap (λ (k : ℕ). laidAt buffer k (digitsOf n)) before) ∙
+            laid-less buffer (first - 1) (digitsOf n) 45 (omega (arith, laid .ends, ap length digits));
+      })
+
+-- a number in just as many places as it has bytes
+pub number-whole : (text : List ℕ) {buffer after : List ℕ} {start end first : ℕ} → TextLaid (cutTo (end - start) text) buffer first after end → start + length text ≡ end → TextLaid text buffer start after end
+number-whole text {buffer} {after} {start} {end} {first} laid e =
+    let whole : cutTo (end - start) text ≡ text = cut-none (end - start) text (omega arith) in
+    let place : first ≡ start = omega (arith, laid .ends, ap length whole) in
+    record { ends = omega arith; bytes = laid .bytes ∙ rw (whole, place) }
 
 -- ---- one line
 
@@ -168,6 +201,10 @@ text-short text buffer at h = let e = lt-leb (at + length text) (length buffer) 
 
 pub text-stands : {text buffer : List ℕ} {at : ℕ} {after : List ℕ} {next : ℕ} → TextLaid text buffer at after next → at + length text ≤ length buffer → TextWritten text buffer at after (written.Ended next)
 text-stands {text} {buffer} {at} laid room = let e = le-leb (at + length text) (length buffer) room in record { ends = rw (e, laid .ends); bytes = rw e (laid .bytes) }
+
+-- what stands in a buffer that has room for the text
+pub written-bytes : {text buffer : List ℕ} {at : ℕ} {after : List ℕ} {ended : Written} → TextWritten text buffer at after ended → at + length text ≤ length buffer → after ≡ laidAt buffer at text
+written-bytes {text} {buffer} {at} done room = done .bytes ∙ rw (le-leb (at + length text) (length buffer) room)
 
 -- bytes after the text stay, whether it was written or not: a program that lays one byte more does not meet its contract
 pub bytes-after-stay : {text buffer : List ℕ} {at : ℕ} {after : List ℕ} {ended : Written} → TextWritten text buffer at after ended → (k : ℕ) → drop (at + length text + k) after ≡ drop (at + length text + k) buffer

@@ -1,17 +1,18 @@
 // Writing into a lent buffer: the length is known before a byte is written, and bytes after the text stay.
 ghost use mathlib.Core.Path.{_≡_};
-ghost use Prim.Native.Nat.{_≤_, _+_};
+ghost use Prim.Native.Nat.{_≤_, _+_, _-_};
 ghost use lib.Dec.{leb};
 ghost use lib.ListN.{length};
 ghost use Rattle.text_number.specs.Number.{digitsOf, writtenNumber};
 ghost use Rattle.text_schema.specs.Schema.{keysOf};
-ghost use Rattle.text_writer.specs.internal.Signed.{lastOf, signedLine};
+ghost use Rattle.text_writer.specs.internal.Signed.{signed, signedLine, cutTo};
 ghost use Rattle.text_writer.specs.Write.{writtenNumbers, TextLaid, LinesWritten};
 use integer::magnitude;
 use text_line::piece::part;
 use text_line::piece::piece_end;
 
 pub mod output;
+pub mod row;
 
 // How writing ended: the text stands and ends before next, or the buffer is shorter than the text (14).
 pub enum Written {
@@ -51,33 +52,49 @@ fn put_bytes(buffer: &mut [u8], at: usize, bytes: &[u8]) -> usize
     at + i
 }
 
-// The digits of a number, the last one first, and byte 10 behind them; where the next line starts.
-fn put_digits(buffer: &mut [u8], at: usize, mut n: u64) -> usize
-    requires { ⌜ at + length (lastOf n) ≤ length (now buffer) ⌝ }
-    ensures { λ r. ⌜ TextLaid (lastOf n) (now (buffer .entry)) at (now (buffer .exit)) r ⌝ }
+// The digits of a number before a position, the last one first, as far as they stand from another position on; where the first of them stands.
+fn put_digits(buffer: &mut [u8], start: usize, end: usize, mut n: u64) -> usize
+    requires { ⌜ (start ≤ end) × (end ≤ length (now buffer)) ⌝ }
+    ensures { λ r. ⌜ TextLaid (cutTo (end - start) (digitsOf n)) (now (buffer .entry)) r (now (buffer .exit)) end ⌝ }
 {
-    let mut end = at + digit_count(n);
-    let next = end + 1;
-    buffer[end] = 10;
-    loop {
-        end -= 1;
-        buffer[end] = (48 + n % 10) as u8;
+    let mut first = end;
+    while start < first {
+        first -= 1;
+        buffer[first] = (48 + n % 10) as u8;
         n = n / 10;
         if n == 0 {
-            return next;
+            return first;
         }
     }
+    first
 }
 
-// A line: its key, the number by its sign and its magnitude, byte 10; where the next line starts.
+// A number by its sign and its magnitude, laid in the same way; where its first byte stands.
+fn put_number(buffer: &mut [u8], start: usize, end: usize, negative: bool, n: u64) -> usize
+    requires { ⌜ (start ≤ end) × (end ≤ length (now buffer)) ⌝ }
+    ensures { λ r. ⌜ TextLaid (cutTo (end - start) (signed negative n)) (now (buffer .entry)) r (now (buffer .exit)) end ⌝ }
+{
+    let first = put_digits(buffer, start, end, n);
+    if !negative {
+        return first;
+    }
+    if first <= start {
+        return first;
+    }
+    buffer[first - 1] = 45;
+    first - 1
+}
+
+// A line: its key, the number, byte 10; where the next line starts.
 fn put_line(buffer: &mut [u8], at: usize, key: &[u8], negative: bool, n: u64) -> usize
     requires { ⌜ at + length (signedLine (now key) negative n) ≤ length (now buffer) ⌝ }
     ensures { λ r. ⌜ TextLaid (signedLine (now (key .entry)) negative n) (now (buffer .entry)) at (now (buffer .exit)) r ⌝ }
 {
-    let sign = put_bytes(buffer, at, key);
-    // The sign; a number that is not below zero has its first digit here, laid over it.
-    buffer[sign] = 45;
-    put_digits(buffer, sign + negative as usize, n)
+    let start = put_bytes(buffer, at, key);
+    let end = start + digit_count(n) + negative as usize;
+    put_number(buffer, start, end, negative, n);
+    buffer[end] = 10;
+    end + 1
 }
 
 // Whether the text of the lines is no longer than the room for it, which is known before a byte is written.

@@ -2,9 +2,31 @@
 #![allow(dead_code)]
 
 use reference::{book, CurveSet, Group, Record, Refusal, GROUPS};
+use std::io::Write;
+use std::process::{Command, Stdio};
 
 pub fn refusal<T>(number: u32, line: u64) -> Result<T, Refusal> {
     Err(Refusal { number, line })
+}
+
+/// What a program prints for a refusal.
+pub fn refused(number: u32, line: u64, text: &str) -> String {
+    format!("refused={number}\nline={line}\ntext={text}\n")
+}
+
+/// Runs the command with this input; gives its output and its exit code.
+pub fn run_command(arguments: &[&str], input: &[u8]) -> (Vec<u8>, Option<i32>) {
+    let mut child = Command::new(env!("CARGO_BIN_EXE_reference"))
+        .args(arguments)
+        .stdin(Stdio::piped())
+        .stdout(Stdio::piped())
+        .stderr(Stdio::null())
+        .spawn()
+        .unwrap();
+    // A command that has seen enough closes the pipe; that is no fault.
+    let _ = child.stdin.take().unwrap().write_all(input);
+    let output = child.wait_with_output().unwrap();
+    (output.stdout, output.status.code())
 }
 
 /// A listing's text: its spaces and line breaks stand for byte 10.

@@ -1,44 +1,22 @@
--- `normal::distribution` meets its contract: N of the magnitude, taken from 10^9 where the numerator is negative.
--- Assumes nothing.
-use mathlib.Core.Path.{_≡_, sym}
-use native.Mathlib.Omega.{arith}
-use lib.IntN.{natAbs}
-use mir.Syntax.{w64}
-use mir.Val.{toZ, ofZ}
+-- `normal::distribution` meets its contract: N in a table of its own.
+use mathlib.Core.Path.{ap, _∙_}
+use borrow.Author.Needs.{needs}
+use lib.IntN.{ℤ}
 use mir.Facts.{toZ-ofZ}
-use Rattle.normal.specs.Normal.{upper}
-use Rattle.normal.proofs.Order.{upper-range, normal-below, normal-above}
+use Rattle.normal.specs.Normal.{normal}
 use Rattle.normal.proofs.distribution.Statement.{statement}
 use Rattle.normal.proofs.distribution.Tie as tie
 
-magnitude-requires : tie.Need-magnitude-requires
-magnitude-requires c κs = tt
+table-of-knots-requires : tie.Need-table-of-knots-requires
+table-of-knots-requires c κs = tt
 
-upper-half-requires : tie.Need-upper-half-requires
-upper-half-requires c κs = tt
-
--- the numerator's bits, read back
-read : (c : tie.After-upper-half) → toZ w64 (ofZ w64 (c .before .before .args .numerator)) ≡ c .before .before .args .numerator
-read c = toZ-ofZ (c .before .before .fits .numerator)
-
-value : (c : tie.After-upper-half) → c .upper-half .result ≡ upper (natAbs (c .before .before .args .numerator)) (c .before .before .args .denominator)
-value c = rw (c .upper-half .ensures, c .before .magnitude .ensures, read c)
-
-sub-result : tie.Need-sub-result
-sub-result c =
-    let a = c .before .before .before .args in
-    omega (arith, value (c .before), upper-range (natAbs (a .numerator)) (a .denominator))
+both-halves-requires : tie.Need-both-halves-requires
+both-halves-requires c κs = search needs
 
 returns : tie.Need-returns
 returns c =
-    let a = c .before .before .before .args in
-    rw (value (c .before)) (sym (normal-below (a .numerator) (a .denominator) (rw (read (c .before)) at (c .if1 .taken))))
-
-returns-2 : tie.Need-returns-2
-returns-2 c =
-    let a = c .before .before .before .args in
-    rw (value (c .before)) (sym (normal-above (a .numerator) (a .denominator) (rw (read (c .before)) at (c .if1 .left))))
+    let s = c .before .before .before in
+    c .both-halves .ensures ∙ ap (λ (x : ℤ). normal x (s .args .denominator)) (toZ-ofZ (s .fits .numerator))
 
 pub distribution-spec : {M : Type 1} → statement M
-distribution-spec =
-    tie.close (tie.spec magnitude-requires upper-half-requires sub-result returns returns-2)
+distribution-spec = tie.close (tie.spec table-of-knots-requires both-halves-requires returns)

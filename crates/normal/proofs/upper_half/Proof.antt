@@ -1,6 +1,6 @@
 -- `normal::upper_half` meets its contract: 10^9 from 500 on, and below that what lies between two knots.
 -- Assumes nothing.
-use mathlib.Core.Path.{_≡_, refl, sym}
+use mathlib.Core.Path.{_≡_, sym}
 use Prim.Native.Nat.{ℕ, suc, _+_, _-_, _*_, _/_, _%_, _≤_, _<_}
 use native.Mathlib.Nat.{le-div-iff-mul-le, div-lt-iff-lt-mul, mod-lt}
 use native.Mathlib.Omega.{arith}
@@ -8,7 +8,7 @@ use mir.Syntax.{w64}
 use mir.Val.{Fits}
 use Rattle.normal.specs.Knot.{knot}
 use Rattle.normal.specs.Normal.{interpolated, upper}
-use Rattle.normal.proofs.Table.{is-table, knot-rises}
+use Rattle.normal.proofs.Table.{knot-rises}
 use Rattle.normal.proofs.Order.{upper-above, upper-inside, upper-range}
 use Rattle.normal.proofs.upper_half.Statement.{statement}
 use Rattle.normal.proofs.upper_half.Tie as tie
@@ -40,26 +40,26 @@ returns-2 c =
     sym (upper-above (a .numerator) (a .denominator) (le-div-iff-mul-le (positive (c .before)) .0 (c .if2 .taken)))
 
 interval-at-requires : tie.Need-interval-at-requires
-interval-at-requires c κs = (c .before .if2 .left, is-table _ refl refl)
+interval-at-requires c κs = (c .if2 .left, c .before .before .pre)
 
 rem-share : tie.Need-rem-share
-rem-share c = div-k (c .before .before .before)
+rem-share c = div-k (c .before .before)
 
 share-requires : tie.Need-share-requires
 share-requires c κs =
-    let test = c .before .before in
+    let test = c .before in
     let a = test .before .before .args in
     (mod-lt (a .numerator) {m = a .denominator} (positive (test .before)), step-small (test .if2 .left) (c .interval-at .ensures .1))
 
 abbrev start : tie.After-struct-known → tie.Start
-start c = c .before .before .before .before .before .before
+start c = c .before .before .before .before .before
 
 value : (c : tie.After-struct-known) →
     let a = start c .args in
     c .before .before .interval-at .result .low + c .before .share .result ≡ upper (a .numerator) (a .denominator)
 value c =
     let i = c .before .before in
-    let test = i .before .before in
+    let test = i .before in
     let a = start c .args in
     between (a .numerator) (a .denominator) (i .interval-at .ensures .0) (i .interval-at .ensures .1) (c .before .share .ensures)
     (div-lt-iff-lt-mul (positive (test .before)) .0 (test .if2 .left))

@@ -1,46 +1,21 @@
--- The digits behind those of the rest are laid. The measure is the rest.
-use Prim.Native.Nat.{ℕ, _+_, _≤_}
-use mathlib.Core.List.{[], _∷_}
-use mathlib.Core.Path.{ap, _∙_}
-use denote.Ref.{now}
-use lib.ListN.{length, set, length-set, length-append}
-use Rattle.text_number.specs.Number.{digitsOf}
-use Rattle.text_writer.specs.Write.{laidAt}
-use Rattle.text_writer.proofs.Writing.{DigitsLeft, digits-start, digits-fit, digits-left, digits-end, digits-ended}
+-- The digits behind those of the rest are laid. The measure is the place of the first of them.
+use Rattle.text_writer.proofs.Writing.{DigitsLeft, digits-start, digits-fit, digits-left, digits-end, digits-cut}
+use lib.ListN.{length-set}
 use native.Mathlib.Omega.{arith}
 use Rattle.text_writer.proofs.put_digits.Statement.{statement}
 use Rattle.text_writer.proofs.put_digits.Tie as tie
 
 abbrev Inv-loop : tie.InvT-loop
-Inv-loop buffer₀ at n end₀ next buffer rest end = DigitsLeft buffer₀ at n buffer rest end
+Inv-loop buffer₀ start end n first₀ buffer rest first = DigitsLeft buffer₀ start end n buffer rest first
 
 abbrev μ-loop : tie.MeasureT-loop
-μ-loop buffer₀ at n end₀ next buffer rest end = rest
-
--- the room that the digits have with the byte behind them, before that byte is laid and after it
-fits : (c : tie.Start Inv-loop μ-loop) → c .args .at + length (digitsOf (c .args .n)) + 1 ≤ length (now (c .args .buffer))
-fits c = omega (arith, length-append (digitsOf (c .args .n)) (10 ∷ []))
-
-room : (c : tie.After-digit-count Inv-loop μ-loop) → c .before .before .args .at + length (digitsOf (c .before .before .args .n)) ≤ length (set (now (c .before .before .args .buffer)) (c .before .before .args .at + c .digit-count .result) 10)
-room c = simp length-set (omega (arith, fits (c .before .before)))
-
-digit-count-requires : tie.Need-digit-count-requires Inv-loop μ-loop
-digit-count-requires c κs = tt
-
-add-end : tie.Need-add-end Inv-loop μ-loop
-add-end c = omega (arith, fits (c .before .before))
-
-add-next : tie.Need-add-next Inv-loop μ-loop
-add-next c = omega (arith, fits (c .before .before))
-
-slice-write-buffer : tie.Need-slice-write-buffer Inv-loop μ-loop
-slice-write-buffer c = omega (arith, fits (c .before .before))
+μ-loop buffer₀ start end n first₀ buffer rest first = first
 
 loop-holds : tie.Need-loop-holds Inv-loop μ-loop
-loop-holds c = digits-start _ _ _ _ (omega arith)
+loop-holds c = digits-start _ _ _ _ (c .pre .0)
 
-sub-end : tie.Need-sub-end Inv-loop μ-loop
-sub-end c = omega (arith, digits-fit (c .loop .inv) (room (c .before)))
+sub-first : tie.Need-sub-first Inv-loop μ-loop
+sub-first c = omega arith
 
 add-buffer : tie.Need-add-buffer Inv-loop μ-loop
 add-buffer c = omega arith
@@ -48,29 +23,26 @@ add-buffer c = omega arith
 cast-buffer : tie.Need-cast-buffer Inv-loop μ-loop
 cast-buffer c = omega arith
 
-slice-write-buffer-2 : tie.Need-slice-write-buffer-2 Inv-loop μ-loop
-slice-write-buffer-2 c = omega (arith, digits-fit (c .loop .inv) (room (c .before)))
+slice-write-buffer : tie.Need-slice-write-buffer Inv-loop μ-loop
+slice-write-buffer c = omega (arith, digits-fit (c .before .loop .inv) (c .before .before .pre .1), c .loop-test .taken)
 
 same-length : tie.Need-same-length Inv-loop μ-loop
-same-length c = simp length-set (c .before .loop .inv .long ∙ simp length-set)
+same-length c = simp length-set (c .before .before .loop .inv .long)
 
 returns : tie.Need-returns Inv-loop μ-loop
-returns c =
-    let d = c .before .before in
-    let a = d .before .before .args in
-    record {
-      ends = omega (arith, d .digit-count .ensures, length-append (digitsOf (a .n)) (10 ∷ []));
-      bytes =
-          digits-end (c .before .loop .inv) (room d) (c .if1 .taken) ∙
-          ap (λ (n : ℕ). laidAt (set (now (a .buffer)) (a .at + n) 10) (a .at) (digitsOf (a .n))) (d .digit-count .ensures) ∙
-          digits-ended (now (a .buffer)) (a .at) (a .n) (d .before .before .pre);
-    }
+returns c = digits-end (c .before .before .loop .inv) (c .before .before .before .pre .1) (c .before .loop-test .taken) (c .if1 .taken)
 
 loop-less : tie.Need-loop-less Inv-loop μ-loop
 loop-less c = omega arith
 
 loop-again : tie.Need-loop-again Inv-loop μ-loop
-loop-again c = digits-left (c .before .loop .inv) (room (c .before .before)) (omega arith)
+loop-again c = digits-left (c .before .before .loop .inv) (c .before .before .before .pre .1) (c .before .loop-test .taken) (omega arith)
+
+same-length-2 : tie.Need-same-length-2 Inv-loop μ-loop
+same-length-2 c = c .before .loop .inv .long
+
+returns-2 : tie.Need-returns-2 Inv-loop μ-loop
+returns-2 c = digits-cut (c .before .loop .inv) (c .before .before .pre .1) (c .loop-test .left)
 
 pub put-digits-spec : {M : Type 1} → statement M
 put-digits-spec =
@@ -78,16 +50,14 @@ put-digits-spec =
     (tie.spec
     Inv-loop
     μ-loop
-    digit-count-requires
-    add-end
-    add-next
-    slice-write-buffer
     loop-holds
-    sub-end
+    sub-first
     add-buffer
     cast-buffer
-    slice-write-buffer-2
+    slice-write-buffer
     same-length
     returns
     loop-less
-    loop-again)
+    loop-again
+    same-length-2
+    returns-2)

@@ -4,7 +4,8 @@ use mathlib.Core.List.{List}
 use lib.ListN.{length}
 use Rattle.text_refusal.specs.declared.refusal.Refusal.{Refusal}
 use Rattle.text_writer.specs.Output.{refusalLines}
-use Rattle.program_curves.proofs.Printing.{refusal-short, text-printed, never-short}
+use Rattle.text_writer.proofs.Refused.{refusal-short}
+use Rattle.program_curves.proofs.Printing.{text-printed, never-short}
 use native.Mathlib.Omega.{arith}
 use borrow.Author.Needs.{needs}
 use Rattle.program_curves.proofs.output.print_lines.Statement.{statement}
@@ -24,7 +25,7 @@ same-length c = search needs
 
 short : (found : Refusal) (name out : List ℕ) → found .number < 2 ^ 64 → found .line < 2 ^ 64 → length name ≤ 6 → length out ≡ 768 →
     length (refusalLines found name) ≤ length out
-short found name out number line small room = omega (arith, refusal-short found name number line small)
+short found name out number line small room = omega (arith, refusal-short found name number line (omega arith))
 
 returns : tie.Need-returns
 returns c =
