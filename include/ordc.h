@@ -22,8 +22,11 @@
  *               +-(count * 20000000), squares 0..count * 400000000000000; and where count is at least 1,
  *               squares - 2 * m * sum + count * m * m is at least 0 for m = floor(sum / count) and for m one more.
  *               Any other record is impossible.
- *               Group = 6 * season + hour / 4; season 0 is December to February, 1 March to May, 2 June to August,
- *               3 September to November.
+ *               Group = 6 * season + block. Season 0 is December to February, 1 March to May, 2 June to August,
+ *               3 September to November. Block = (hour + 2) % 24 / 4: block 0 has the hours 22, 23, 0 and 1 (hour
+ *               endings 23, 24, 1 and 2), block 1 the hours 2 to 5, and so on to block 5 with the hours 18 to 21.
+ *               A record or a curve set made by a version before 2.0.0 has the blocks hour / 4. Nothing in it tells,
+ *               and it is read as one of this version: make it anew from its hours.
  *   curve set   ORDC_CURVES = 50 numbers: VOLL (cents per MWh, 0..2000000), X, the minimum contingency level (kW,
  *               0..20000000), then mean (kW, -20000000..20000000) and spread (kW, 1..20000000) of group 0, of group 1,
  *               and so on to group 23. A curve set with a number outside its range is impossible.
@@ -114,7 +117,7 @@ struct ordc_refusal ordc_write_curves(const int64_t curves[ORDC_CURVES], uint8_t
 /* Writes a curve set's page to the front of a buffer; it has ORDC_PAGE bytes: a row of 72 bytes for each group, from
  * group 0 on. The places of a row, from 0:
  *   0..5    the season: winter, spring, summer, or fall and two spaces
- *   7       the block, hour / 4: 0..5
+ *   7       the block: 0..5
  *   9..17   the mean, kW
  *   19..26  the spread, kW
  *   28..37, 39..48, 50..59, 61..70

@@ -23,7 +23,7 @@ def history(each, runs, rng, times=1):
     hours = []
     for season in ((12, 1, 2), (3, 4, 5), (6, 7, 8), (9, 10, 11)):
         for block in range(6):
-            hours += [hour(rng.choice(season), 4 * block + rng.randrange(4), runs, rng) for _ in range(each)]
+            hours += [hour(rng.choice(season), (4 * block + rng.randrange(4) + 22) % 24, runs, rng) for _ in range(each)]
     rng.shuffle(hours)
     return ("voll=900000\nfloor=2000000\n" + "\n".join(hours * times)).encode()
 

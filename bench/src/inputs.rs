@@ -119,7 +119,10 @@ pub fn hours(count: u64) -> Vec<Vec<u8>> {
         .map(|index| {
             let mut power = |most: u64| below(&mut random, most);
             let (group, day) = (index % 24, index / 24);
-            let (month, hour) = (3 * (group / 6) + 1, 4 * (group % 6) + day % 4);
+            let (month, hour) = (
+                3 * (group / 6) + 1,
+                (4 * (group % 6) + day % 4 + 22) % 24,
+            );
             let mut text = format!(
                 "month={month}\nhour={hour}\nongen={}\nload={}\ntie={}\nns={}\nreg={}\nrrs={}\nnclr={}\noffns={}\ncold30={}\nshed=0\nruns=12\n",
                 70_000_000 + power(3_000_000),

@@ -69,7 +69,7 @@ int main(void)
     /* The errors -1 and 2 in each group: mean 0, spread 1. */
     for (int group = 0; group < ORDC_GROUPS; group++) {
         int month = 3 * (group / 6) + 1; /* January, April, July, October */
-        int hour = 4 * (group % 6);
+        int hour = (4 * (group % 6) + 22) % 24; /* the first hour of the block: 22, 2, 6, 10, 14, 18 */
         expect_accepted("book", book_error(record, month, hour, -1));
         expect_accepted("book", book_error(record, month, hour, 2));
     }

@@ -161,7 +161,7 @@ int main(void)
     try_call("settle, no hours", settle, ORDC_TOO_FEW_HOURS);
     memset(record, 0, sizeof record);
     for (int group = 0; group < 2 * ORDC_GROUPS; group++) {
-        hour(3 * (group / 2 / 6) + 1, 4 * (group / 2 % 6), 1, group % 2 == 0 ? 1 : 1000001);
+        hour(3 * (group / 2 / 6) + 1, (4 * (group / 2 % 6) + 22) % 24, 1, group % 2 == 0 ? 1 : 1000001);
         book(NULL);
         expect(refusal.number == ORDC_ACCEPTED, "book");
     }

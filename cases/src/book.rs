@@ -69,7 +69,7 @@ fn due(at: usize) -> Due {
 }
 
 /// The group of month 7 and hour 14.
-const PLAIN_GROUP: usize = 15;
+const PLAIN_GROUP: usize = 16;
 
 fn booked(record: Record, text: impl Into<Text>) -> Input {
     Input::Book {
@@ -282,6 +282,18 @@ fn groups(cases: &mut Vec<Case>) {
     for hour in 0..24 {
         cases.case(format!("month 6, hour {hour}"), in_hour(6, hour));
     }
+    for (month, hour) in bounds_of_the_first_block() {
+        cases.case(format!("month {month}, hour {hour}"), in_hour(month, hour));
+    }
+}
+
+/// The bounds of the first block, which has the hours 22, 23, 0 and 1, in the
+/// last month of each season: its hours before midnight stay in that season.
+pub fn bounds_of_the_first_block() -> impl Iterator<Item = (i64, i64)> {
+    let months = [2, 5, 8, 11];
+    months
+        .into_iter()
+        .flat_map(|month| [1, 2, 21, 22].map(|hour| (month, hour)))
 }
 
 fn group_of(count: u64, sum: i64, squares: i64) -> Group {

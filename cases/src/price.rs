@@ -1,5 +1,6 @@
 //! Cases of pricing a snapshot.
 
+use crate::book::bounds_of_the_first_block;
 use crate::curve_text::random_set;
 use crate::texts::*;
 use crate::{Case, Input, Random, Text};
@@ -714,6 +715,9 @@ fn groups(cases: &mut Vec<Case>) {
     }
     for hour in 0..24 {
         case(1, hour);
+    }
+    for (month, hour) in bounds_of_the_first_block() {
+        case(month, hour);
     }
 }
 

@@ -44,7 +44,7 @@ fn one_hour() -> Vec<u8> {
     bytes(&hour_with_error(7))
 }
 
-/// An hour of this group, its first month and its first hour of the day.
+/// An hour of this group, its first month and the third hour of its block.
 fn hour_in(group: usize, random: &mut Random) -> Vec<u8> {
     let mut head: [i64; 12] = std::array::from_fn(|_| random.within(0, 99));
     head[0] = [12, 3, 6, 9][group / 6];

@@ -141,7 +141,7 @@ impl Snapshot {
 pub fn hour_in_group(random: &mut Random, group: usize) -> Hour {
     let season = group as i64 / 6;
     let month = (3 * season + random.within(0, 2) + 11) % 12 + 1;
-    let hour = 4 * (group as i64 % 6) + random.within(0, 3);
+    let hour = (4 * (group as i64 % 6) + random.within(0, 3) + 22) % 24;
     let runs = match random.bits() % 64 {
         0 => 60,
         1 => random.within(1, 60),

@@ -27,6 +27,10 @@ enum Fault {
     Sigma,
     /// Prices more with more reserve.
     Rising,
+    /// Hours are booked by blocks that begin at midnight; snapshots are not.
+    BookedFromMidnight,
+    /// Snapshots are priced by blocks that begin at midnight; hours are not.
+    PricedFromMidnight,
     /// A refused page is begun.
     PageBegun,
     /// A page is ended with a byte 0.
@@ -68,6 +72,10 @@ impl Library for Faulty {
             Fault::Record if refusal.number == 11 => record[0] += 1,
             Fault::Kept => *record = before,
             Fault::Line if refusal.number == 9 => refusal.line -= 1,
+            Fault::BookedFromMidnight if refusal.accepted() => {
+                *record = before;
+                return Plain.book(record, &from_midnight(text));
+            }
             _ => {}
         }
         refusal
@@ -113,6 +121,7 @@ impl Library for Faulty {
         let faulty = match self.0 {
             Fault::Startup => changed("status=STARTUP\n", "status=ON\n"),
             Fault::Rrs => without_rrs(text),
+            Fault::PricedFromMidnight => from_midnight(text),
             _ => text.to_vec(),
         };
         if refusal.accepted() && Plain.price(curves, &faulty, &mut copy).accepted() {
@@ -183,6 +192,22 @@ fn without_rrs(text: &[u8]) -> Vec<u8> {
         match line.starts_with("rrs=") && !validated {
             true => "rrs=0\n",
             false => line,
+        }
+    });
+    lines.collect::<String>().into_bytes()
+}
+
+/// The text with an hour whose block is the hour as it stood, divided by four:
+/// two hours earlier.
+fn from_midnight(text: &[u8]) -> Vec<u8> {
+    let text = String::from_utf8_lossy(text);
+    let lines = text.split_inclusive('\n').map(|line| {
+        let hour = line
+            .strip_prefix("hour=")
+            .map(|hour| hour.trim_end().parse());
+        match hour {
+            Some(Ok::<i64, _>(hour)) => format!("hour={}\n", (hour + 22) % 24),
+            _ => line.to_string(),
         }
     });
     lines.collect::<String>().into_bytes()
@@ -285,6 +310,21 @@ fn a_wrong_root_is_found_in_the_smallest_record() {
     );
     assert!(shown.contains("groups 9..9: "), "{shown}");
     assert!(shown.contains("VOLL 0, X 0"), "{shown}");
+}
+
+#[test]
+fn blocks_that_begin_at_midnight_are_found() {
+    let (Input::Book { text: booked, .. }, Input::Price { text: priced, .. }) = (
+        smallest(Fault::BookedFromMidnight),
+        smallest(Fault::PricedFromMidnight),
+    ) else {
+        panic!("the faults are in booking and in pricing");
+    };
+    // Of four hours from midnight on, the first two have the same block either way.
+    for text in [booked, priced] {
+        let hour: i64 = lines(&text)[1]["hour=".len()..].parse().unwrap();
+        assert!(hour % 4 >= 2, "{hour}");
+    }
 }
 
 #[test]

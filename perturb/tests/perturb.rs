@@ -209,7 +209,9 @@ fn header_lines_that_change_nothing() {
         names(&given, "", "prc"),
         ["no off-line reserve", "PRC stays above EEA1"]
     );
-    assert_eq!(names(&given, "", "month"), ["same group"]);
+    // July is in summer, and hour 14 in block 4.
+    let same_group = Verdict::Unmoved(vec![Reason::SameGroup(16)]);
+    assert_eq!(*verdict(&given, "", "month"), same_group);
     assert_eq!(
         names(&given, "", "hour"),
         ["same mu and sigma", "same group"]
@@ -228,6 +230,29 @@ fn header_lines_that_change_nothing() {
     let nothing = text(&snapshot_of(&[]));
     let nothing = study(&curves_with(0, 0, 100), &nothing).unwrap();
     assert_eq!(names(&nothing, "", "factor"), ["no reserve for the factor"]);
+}
+
+/// Hour 14 is the first one of its block: hour 13 is in group 15, hour 15 in group 16 as hour 14 is.
+#[test]
+fn the_hour_before_is_of_another_block() {
+    let listing = text(&snapshot_of(&[BIG]));
+    let with_mean = |group: usize| {
+        let mut curves = curves_with(1_799_999, 0, 100);
+        curves.pairs[group].0 = 20;
+        study(&curves, &listing).unwrap()
+    };
+    let before = with_mean(15);
+    let moves = |kind| match outcome(&before, 2, kind) {
+        Outcome::Priced { moved, .. } => *moved,
+        other => panic!("{other:?}"),
+    };
+    assert!(moves(ChangeKind::OneDown));
+    assert!(!moves(ChangeKind::OneUp));
+    assert_eq!(*verdict(&before, "", "hour"), Verdict::Moves);
+    assert_eq!(
+        names(&with_mean(17), "", "hour"),
+        ["same mu and sigma", "same group"]
+    );
 }
 
 #[test]

@@ -22,14 +22,17 @@ fn full_hour() -> String {
 #[test]
 fn groups_are_seasons_of_blocks() {
     assert_eq!(group_of(12, 0), 0);
-    assert_eq!(group_of(1, 3), 0);
+    assert_eq!(group_of(1, 1), 0);
+    assert_eq!(group_of(1, 3), 1);
     assert_eq!(group_of(2, 4), 1);
     assert_eq!(group_of(3, 0), 6);
-    assert_eq!(group_of(5, 23), 11);
-    assert_eq!(group_of(7, 14), 15);
+    assert_eq!(group_of(5, 21), 11);
+    assert_eq!(group_of(5, 23), 6);
+    assert_eq!(group_of(7, 14), 16);
     assert_eq!(group_of(8, 8), 14);
     assert_eq!(group_of(9, 0), 18);
-    assert_eq!(group_of(11, 23), 23);
+    assert_eq!(group_of(11, 21), 23);
+    assert_eq!(group_of(11, 23), 18);
 }
 
 #[test]
@@ -38,7 +41,7 @@ fn every_field_of_an_hour_counts() {
     let sced = 1000 - 100 + 1 + 2 + 3 + 4 + 5 + 6 - 20;
     let error = ha - (sced - 2_i64).div_euclid(2) + 70;
     let mut expected = Record::fresh();
-    expected.groups[15] = Group {
+    expected.groups[16] = Group {
         count: 1,
         sum: error,
         squares: error * error,
@@ -51,7 +54,7 @@ fn every_field_of_an_hour_counts() {
 fn example_of_three_runs() {
     let error = 1_837_334;
     let mut expected = Record::fresh();
-    expected.groups[15] = Group {
+    expected.groups[16] = Group {
         count: 1,
         sum: error,
         squares: error * error,

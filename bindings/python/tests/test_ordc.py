@@ -2,6 +2,7 @@
 
 import ctypes
 import pathlib
+import re
 import threading
 import unittest
 
@@ -35,7 +36,7 @@ ROWS = {
     # 10070.7 and more
     (12, 992930, 10000): b"summer 0    992930    10000  239785544          0          0          0\n",
     # docs/FORMAT.md works this one out
-    (15, 712666, 1124667): b"summer 3    712666  1124667  399176016  126182998   20987705    1733886\n",
+    (16, 712666, 1124667): b"summer 4    712666  1124667  399176016  126182998   20987705    1733886\n",
     # p = -70.7: N(70.7) itself; then p is 9929.3 and more
     (18, 1007070, 10000): b"fall   0   1007070    10000  760214456          0          0          0\n",
     # p = 499.5, between T(499) 999999698 and T(500) 999999713: N = 999999698 + floor(0.5 * 15) = 999999705; then p is
@@ -52,10 +53,13 @@ HOUR = (
     "month={}\nhour={}\nongen={}\nload=0\ntie=0\nns=0\nreg=0\nrrs=0\nnclr=0\noffns=0\ncold30=0\nshed=0\nruns=1\n"
     "hsl=1000\nbase=0\nrrs=0\nnclr=0\nreg=0\nns=0\noffns=0\ncold30=0\nshort=0\n"
 )
+# The months of each season and the hour endings of each block, as they are posted; hour h is hour ending h + 1.
+SEASONS = ((12, 1, 2), (3, 4, 5), (6, 7, 8), (9, 10, 11))
+POSTED = ((23, 24, 1, 2), (3, 4, 5, 6), (7, 8, 9, 10), (11, 12, 13, 14), (15, 16, 17, 18), (19, 20, 21, 22))
 
 
 def hour(group: int, error: int) -> bytes:
-    return HOUR.format(3 * (group // 6) + 1, 4 * (group % 6), error + 1000).encode()
+    return HOUR.format(SEASONS[group // 6][1], POSTED[group % 6][0] - 1, error + 1000).encode()
 
 
 def booked(*errors: int) -> ordc.Record:
@@ -89,8 +93,40 @@ class Operations(unittest.TestCase):
     def test_hour_of_three_runs(self):
         error = 1837334
         record = ordc.book(ordc.Record(), THREE_RUNS)
-        self.assertEqual(record.groups[15], ordc.Group(1, error, error * error))
+        self.assertEqual(record.groups[16], ordc.Group(1, error, error * error))
         self.assertEqual(sum(group.count for group in record.groups), 1)
+
+    def test_blocks_are_the_posted_ones(self):
+        # History and snapshot have the groups of the posted table, in every month and hour. With mean -20000000 the
+        # probability is 0 on every reserve above X, and 1 with mean 20000000.
+        listed = ordc.read_curves(CURVES)
+        never = ordc.CurveSet(listed.voll, listed.floor, (ordc.Pair(-20000000, 1),) * ordc.GROUPS)
+        for group in range(ordc.GROUPS):
+            only = with_pair(never, group, 20000000, 1)
+            for month in SEASONS[group // 6]:
+                for clock in (ending - 1 for ending in POSTED[group % 6]):
+                    with self.subTest(month=month, hour=clock):
+                        record = ordc.book(ordc.Record(), HOUR.format(month, clock, 1003).encode())
+                        expected = [ordc.Group()] * ordc.GROUPS
+                        expected[group] = ordc.Group(1, 3, 9)
+                        self.assertEqual(list(record.groups), expected)
+                        snapshot = LISTING.replace(b"month=7\nhour=14\n", b"month=%d\nhour=%d\n" % (month, clock))
+                        prices = ordc.price(only, snapshot)
+                        self.assertEqual((prices.pis, prices.pins), (1000000000, 1000000000))
+                        prices = ordc.price(never, snapshot)
+                        self.assertEqual((prices.pis, prices.pins), (0, 0))
+
+    def test_one_version(self):
+        # What a host notes beside a record or a curve text, since nothing in them tells by which blocks they were made.
+        top = EXAMPLES.parents[2]
+        places = {
+            "Makefile": r"^VERSION := (\S+)$",
+            "CHANGELOG.md": r"^## (\S+)$",
+            "bindings/rust/Cargo.toml": r'^version = "(\S+)"$',
+            "bindings/python/pyproject.toml": r'^version = "(\S+)"$',
+        }
+        found = {place: re.search(line, (top / place).read_text(), re.M).group(1) for place, line in places.items()}
+        self.assertEqual(len(set(found.values())), 1, found)
 
     def test_examples_stand_in_the_document(self):
         # docs/FORMAT.md has several lines of a text in one line, with a space for each byte 10 but the last of the line.
@@ -122,7 +158,7 @@ class Operations(unittest.TestCase):
             self.assertEqual(ordc.write_page(ordc.CurveSet(voll, floor, curves.pairs)), b"".join(rows))
 
     def test_pages_stand_in_the_documents(self):
-        self.assertIn(ROWS[15, 712666, 1124667], FORMAT)
+        self.assertIn(ROWS[16, 712666, 1124667], FORMAT)
         first = LISTING_PAGE.splitlines(keepends=True)[:3]
         self.assertIn(b"".join(b"    " + row for row in first), README)
 

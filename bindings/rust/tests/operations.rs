@@ -59,20 +59,20 @@ const ROWS: [(i64, i64, &str); GROUPS] = [
     // p is -300000000, -200000000, -100000000 and 0.
     (4_000_000, 1,
      "spring 5   4000000        1 1000000000 1000000000 1000000000  500000000\n"),
-    // From here on, except in summer 3, p is 99997900 or more.
+    // From here on, except in summer 4, p is 99997900 or more.
     (12, 1,
      "summer 0        12        1          0          0          0          0\n"),
     (13, 1,
      "summer 1        13        1          0          0          0          0\n"),
     (14, 1,
      "summer 2        14        1          0          0          0          0\n"),
+    (15, 1,
+     "summer 3        15        1          0          0          0          0\n"),
     // The row of docs/FORMAT.md: N = 598706326 + floor(3861787 * 616725 / 1124667) = 600823984,
     // 872856849 + floor(2071215 * 521362 / 1124667) = 873817002, 978821730 + floor(503107 * 425999 / 1124667) = 979012295,
     // 998249843 + floor(55347 * 330636 / 1124667) = 998266114.
     (712_666, 1_124_667,
-     "summer 3    712666  1124667  399176016  126182998   20987705    1733886\n"),
-    (16, 1,
-     "summer 4        16        1          0          0          0          0\n"),
+     "summer 4    712666  1124667  399176016  126182998   20987705    1733886\n"),
     (17, 1,
      "summer 5        17        1          0          0          0          0\n"),
     (18, 1,
@@ -93,14 +93,29 @@ fn curves() -> CurveSet {
     CurveSet::from_text(CURVES).unwrap()
 }
 
-fn hour(group: usize, error: i64) -> String {
+/// The hour endings of each block, as they are posted; hour h is hour ending h + 1.
+const POSTED: [[u64; 4]; 6] = [
+    [23, 24, 1, 2],
+    [3, 4, 5, 6],
+    [7, 8, 9, 10],
+    [11, 12, 13, 14],
+    [15, 16, 17, 18],
+    [19, 20, 21, 22],
+];
+
+fn hour_of(month: usize, hour: u64, error: i64) -> String {
     let fields = "hsl=1000\nbase=0\nrrs=0\nnclr=0\nreg=0\nns=0\noffns=0\ncold30=0\nshort=0\n";
     format!(
         "month={}\nhour={}\nongen={}\nload=0\ntie=0\nns=0\nreg=0\nrrs=0\nnclr=0\noffns=0\ncold30=0\nshed=0\nruns=1\n{fields}",
-        3 * (group / 6) + 1,
-        4 * (group % 6),
+        month,
+        hour,
         error + 1000
     )
+}
+
+/// An hour of this group: of January, April, July or October, and the first one of its block.
+fn hour(group: usize, error: i64) -> String {
+    hour_of(3 * (group / 6) + 1, POSTED[group % 6][0] - 1, error)
 }
 
 fn booked(errors: &[i64]) -> Record {
@@ -141,7 +156,7 @@ fn all_kinds_of_resource() {
 fn an_hour_of_three_runs() {
     let error = 1_837_334;
     let mut expected = Record::default();
-    expected.groups[15] = Group {
+    expected.groups[16] = Group {
         count: 1,
         sum: error,
         squares: error * error,
@@ -149,6 +164,43 @@ fn an_hour_of_three_runs() {
     let mut record = Record::default();
     record.book(THREE_RUNS).unwrap();
     assert_eq!(record, expected);
+}
+
+/// History and snapshot have the groups of the posted table, in every month and hour. December to February are winter,
+/// whose groups are 0 to 5. With mean -20000000 the probability is 0 on every reserve above X, and 1 with mean 20000000.
+#[test]
+fn the_blocks_are_the_posted_ones() {
+    let mut never = curves();
+    never.pairs = [Pair {
+        mean: -20_000_000,
+        spread: 1,
+    }; GROUPS];
+    let seasons = [[12, 1, 2], [3, 4, 5], [6, 7, 8], [9, 10, 11]];
+    for (season, months) in seasons.iter().enumerate() {
+        for (block, endings) in POSTED.iter().enumerate() {
+            let group = 6 * season + block;
+            let mut expected = Record::default();
+            expected.groups[group] = Group {
+                count: 1,
+                sum: 3,
+                squares: 9,
+            };
+            let mut only = never;
+            only.pairs[group].mean = 20_000_000;
+            for (month, ending) in months.iter().flat_map(|m| endings.map(|e| (*m, e))) {
+                let hour = ending - 1;
+                let mut record = Record::default();
+                record.book(hour_of(month, hour, 3).as_bytes()).unwrap();
+                assert_eq!(record, expected, "month {month}, hour {hour}");
+                let clock = format!("month={month}\nhour={hour}\n");
+                let snapshot = LISTING.replace("month=7\nhour=14\n", &clock);
+                let prices = only.price(snapshot.as_bytes()).unwrap();
+                assert_eq!((prices.pis, prices.pins), (1_000_000_000, 1_000_000_000));
+                let prices = never.price(snapshot.as_bytes()).unwrap();
+                assert_eq!((prices.pis, prices.pins), (0, 0));
+            }
+        }
+    }
 }
 
 #[test]

@@ -5,9 +5,9 @@ use Prim.Native.Nat.{ℕ, _+_, _*_, _/_, _%_}
 unfoldable pub seasonOf : ℕ → ℕ
 seasonOf month = month % 12 / 3
 
--- block = floor(hour / 4)
+-- block = floor(((hour + 2) mod 24) / 4): document 02, W-202, whose posted table is `postedBlocks`
 unfoldable pub blockOf : ℕ → ℕ
-blockOf hour = hour / 4
+blockOf hour = (hour + 2) % 24 / 4
 
 -- Group = 6 × season + block
 unfoldable pub groupOf : ℕ → ℕ → ℕ

@@ -7,11 +7,13 @@ use Rattle.known.specs.Probability.{tableValues}
 use Rattle.known.specs.Settling.{settledValues}
 use Rattle.known.specs.Pricing.{pricedValues}
 use Rattle.known.specs.Page.{pageValues}
+use Rattle.known.specs.Group.{groupValues}
 use Rattle.known.specs.Known.{allKnownValues}
 use Rattle.known.proofs.Probability.{table-values}
 use Rattle.known.proofs.Settling.{settled-values}
 use Rattle.known.proofs.Pricing.{priced-values}
 use Rattle.known.proofs.Page.{page-values}
+use Rattle.known.proofs.Group.{group-values}
 
 map-append : {A B : Type 0} (f : A → B) (xs ys : List A) → map f (xs ++ ys) ≡ map f xs ++ map f ys
 map-append f [] ys = refl
@@ -23,5 +25,6 @@ all-append first second e f = map-append _ first second ∙ ap₂ _++_ e f ∙ s
 
 pub all-known-values : AllHold allKnownValues
 all-known-values =
-    all-append tableValues (settledValues ++ (pricedValues ++ pageValues)) table-values
-    (all-append settledValues (pricedValues ++ pageValues) settled-values (all-append pricedValues pageValues priced-values page-values))
+    all-append tableValues (settledValues ++ (pricedValues ++ (pageValues ++ groupValues))) table-values
+    (all-append settledValues (pricedValues ++ (pageValues ++ groupValues)) settled-values
+    (all-append pricedValues (pageValues ++ groupValues) priced-values (all-append pageValues groupValues page-values group-values)))

@@ -3,6 +3,7 @@ pub mod Probability
 pub mod Settling
 pub mod Pricing
 pub mod Page
+pub mod Group
 pub mod Known
 pub mod BookingExamples
 pub mod PriceExamples

@@ -1,4 +1,4 @@
--- Document 01's known values of pricing, and its traps, by computation over whole texts.
+-- The known values of pricing, and document 01's traps, by computation over whole texts.
 use mathlib.Core.Path.{_≡_, refl}
 use mathlib.Core.List.{[], _∷_}
 use lib.IntN.{pos, negsuc}
@@ -27,7 +27,7 @@ use Rattle.pricing_resource.specs.Offline.{countedOffline}
 use Rattle.pricing_sums.specs.Part.{partOf, sumsOf}
 use Rattle.pricing.specs.Pricing.{priced}
 use Rattle.known.specs.Statement.{AllHold}
-use Rattle.known.specs.Pricing.{printed, listedCurves, asListed, atLevelOne, belowMinimum, emptyHsl, oneLoad, shortLoad, twoLoads, missingLpc, otherIds, repeatedId, pricedValues}
+use Rattle.known.specs.Pricing.{printed, listedCurves, withMean, asListed, atLevelOne, belowMinimum, emptyHsl, oneLoad, shortLoad, twoLoads, missingLpc, otherIds, repeatedId, pricedValues}
 
 as-listed : printed (priced listedCurves asListed) ≡ pos 2707000 ∷ pos 3000000 ∷ pos 158655254 ∷ pos 158655254 ∷ pos 142393 ∷ pos 71197 ∷ []
 unfolding asListed endedLines lineIn lineLength begins numberOf allDigits valueOf wordAmong isId allIdBytes fieldAt readFields headerFields generatorFields controllableFields loadFields resourceAt resourcesAt standsIn sameBytes dueLines snapshotIn priced curvesInRange pairsInRange sumsOf partOf countedOnline countedOffline plus pricesOf valueOfReserve rounded shortageOnline shortageOffline onlineProbability offlineProbability normal upper interpolated knot groupOf seasonOf blockOf onlineReserve totalReserve discounted twiceOnline twiceAll twiceLoads floorDiv minℤ maxℤ
@@ -69,6 +69,14 @@ repeated-id : printed (priced listedCurves repeatedId) ≡ pos 8 ∷ pos 15 ∷ 
 unfolding repeatedId endedLines lineIn lineLength begins numberOf allDigits valueOf wordAmong isId allIdBytes fieldAt readFields headerFields generatorFields controllableFields loadFields resourceAt resourcesAt standsIn sameBytes dueLines snapshotIn priced curvesInRange pairsInRange sumsOf partOf countedOnline countedOffline plus pricesOf valueOfReserve rounded shortageOnline shortageOffline onlineProbability offlineProbability normal upper interpolated knot groupOf seasonOf blockOf onlineReserve totalReserve discounted twiceOnline twiceAll twiceLoads floorDiv minℤ maxℤ
 repeated-id = refl
 
+on-its-group : printed (priced (withMean 16) asListed) ≡ pos 2707000 ∷ pos 3000000 ∷ pos 176373156 ∷ pos 184060125 ∷ pos 161744 ∷ pos 82597 ∷ []
+unfolding asListed endedLines lineIn lineLength begins numberOf allDigits valueOf wordAmong isId allIdBytes fieldAt readFields headerFields generatorFields controllableFields loadFields resourceAt resourcesAt standsIn sameBytes dueLines snapshotIn priced curvesInRange pairsInRange sumsOf partOf countedOnline countedOffline plus pricesOf valueOfReserve rounded shortageOnline shortageOffline onlineProbability offlineProbability normal upper interpolated knot groupOf seasonOf blockOf onlineReserve totalReserve discounted twiceOnline twiceAll twiceLoads floorDiv minℤ maxℤ
+on-its-group = refl
+
+on-no-other : printed (priced (withMean 15) asListed) ≡ pos 2707000 ∷ pos 3000000 ∷ pos 158655254 ∷ pos 158655254 ∷ pos 142393 ∷ pos 71197 ∷ []
+unfolding asListed endedLines lineIn lineLength begins numberOf allDigits valueOf wordAmong isId allIdBytes fieldAt readFields headerFields generatorFields controllableFields loadFields resourceAt resourcesAt standsIn sameBytes dueLines snapshotIn priced curvesInRange pairsInRange sumsOf partOf countedOnline countedOffline plus pricesOf valueOfReserve rounded shortageOnline shortageOffline onlineProbability offlineProbability normal upper interpolated knot groupOf seasonOf blockOf onlineReserve totalReserve discounted twiceOnline twiceAll twiceLoads floorDiv minℤ maxℤ
+on-no-other = refl
+
 pub priced-values : AllHold pricedValues
 unfolding pricedValues
-priced-values = rw (as-listed, at-level-one, below-minimum, empty-hsl, one-load, short-load, two-loads, missing-lpc, other-ids, repeated-id)
+priced-values = rw (as-listed, at-level-one, below-minimum, empty-hsl, one-load, short-load, two-loads, missing-lpc, other-ids, repeated-id, on-its-group, on-no-other)

@@ -5,6 +5,7 @@ use Rattle.known.specs.Probability.{tableValues}
 use Rattle.known.specs.Settling.{settledValues}
 use Rattle.known.specs.Pricing.{pricedValues}
 use Rattle.known.specs.Page.{pageValues}
+use Rattle.known.specs.Group.{groupValues}
 
 abbrev pub allKnownValues : List (List ℤ × List ℤ)
-allKnownValues = tableValues ++ (settledValues ++ (pricedValues ++ pageValues))
+allKnownValues = tableValues ++ (settledValues ++ (pricedValues ++ (pageValues ++ groupValues)))

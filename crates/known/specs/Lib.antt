@@ -4,4 +4,5 @@ pub mod Probability
 pub mod Settling
 pub mod Pricing
 pub mod Page
+pub mod Group
 pub mod Known

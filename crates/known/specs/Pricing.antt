@@ -1,8 +1,8 @@
--- Document 01, "Known values" and "Traps": those of pricing, each with what it is to be.
+-- Document 01, "Known values" and "Traps", and document 02, W-202: those of pricing, each with what it is to be.
 use Prim.Native.Nat.{ℕ}
 use mathlib.Core.List.{List, [], _∷_, _++_}
 use lib.IntN.{ℤ, pos, negsuc}
-use lib.ListN.{replicate}
+use lib.ListN.{replicate, set}
 use Rattle.text_refusal.specs.Bytes.{bytes}
 use Rattle.curve_set.specs.declared.CurveSet.{CurveSet}
 use Rattle.pricing_adder.specs.Price.{priceValues}
@@ -18,6 +18,11 @@ printed (pricing.Refused found) = pos (found .number) ∷ pos (found .line) ∷ 
 -- voll 900000, floor 2000000, all pairs 0 and 1000000
 abbrev pub listedCurves : CurveSet
 listedCurves = record { voll = pos 900000; floor = pos 2000000; pairs = replicate 24 (record { mean = pos 0; spread = pos 1000000 }) }
+
+-- these curves, but with the mean 100000 in one group
+abbrev pub withMean : ℕ → CurveSet
+withMean group =
+    record { voll = pos 900000; floor = pos 2000000; pairs = set (listedCurves .pairs) group (record { mean = pos 100000; spread = pos 1000000 }) }
 
 -- document 01's listing, by PRC, A's HSL, B's net and base point, and C's HSL
 abbrev pub listing : List ℕ → List ℕ → List ℕ → List ℕ → List ℕ → List ℕ
@@ -78,9 +83,13 @@ otherIds = loads (bytes "0") (bytes "0") (bytes "2") (bytes "id=LOADNUMBER1\nkin
 unfoldable pub repeatedId : List ℕ
 repeatedId = loads (bytes "0") (bytes "0") (bytes "2") (bytes "id=LOADNUMBER1\nkind=nclr\nrrsok=1\nnet=10\nlpc=0\nrrs=3\nid=LOADNUMBER1\nkind=nclr\nrrsok=0\nnet=0\nlpc=0\nrrs=0\n")
 
--- what is printed of each, and what is to be
+-- a text priced on curves: what is printed, and what is to be
+abbrev pub claimOn : CurveSet → List ℕ → List ℤ → List ℤ × List ℤ
+claimOn curves text expected = (printed (priced curves text), expected)
+
+-- the same on document 01's curves
 abbrev pub claim : List ℕ → List ℤ → List ℤ × List ℤ
-claim text expected = (printed (priced listedCurves text), expected)
+claim text expected = claimOn listedCurves text expected
 
 unfoldable pub pricedValues : List (List ℤ × List ℤ)
 pricedValues =
@@ -94,4 +103,8 @@ pricedValues =
     ∷ claim missingLpc (pos 4 ∷ pos 13 ∷ [])
     ∷ claim otherIds (pos 4 ∷ pos 4 ∷ pos 1000000000 ∷ pos 1000000000 ∷ pos 900000 ∷ pos 450000 ∷ [])
     ∷ claim repeatedId (pos 8 ∷ pos 15 ∷ [])
+    -- July, hour 14, is in group 16: p is 92.927… and 90, and T(92) + floor(0.927… × (T(93) - T(92))) is 821213620 + 2413224, T(90) is 815939875
+    ∷ claimOn (withMean 16) asListed (pos 2707000 ∷ pos 3000000 ∷ pos 176373156 ∷ pos 184060125 ∷ pos 161744 ∷ pos 82597 ∷ [])
+    -- and in no other: the mean of group 15 is not looked at
+    ∷ claimOn (withMean 15) asListed (pos 2707000 ∷ pos 3000000 ∷ pos 158655254 ∷ pos 158655254 ∷ pos 142393 ∷ pos 71197 ∷ [])
     ∷ []

@@ -67,11 +67,12 @@ pub fn hour_with_error(month: u32, hour: u32, error: i64) -> String {
     ))
 }
 
-/// A month and an hour of each group, in the groups' order.
+/// A month and an hour of each group, in the groups' order. The hours are the
+/// first ones of the blocks.
 pub fn month_and_hour_of_groups() -> impl Iterator<Item = (u32, u32)> {
     [1, 4, 7, 10]
         .into_iter()
-        .flat_map(|month| (0..6).map(move |block| (month, 4 * block)))
+        .flat_map(|month| [22, 2, 6, 10, 14, 18].map(|hour| (month, hour)))
 }
 
 /// The hours that book each of these errors once in every group.
