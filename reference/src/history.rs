@@ -114,9 +114,15 @@ impl Record {
 }
 
 /// The group of a month 1..12 and an hour 0..23: 6 × season + block.
-/// Season 0 is winter (12, 1, 2). Block 0 is posted as hour endings 23, 24, 1
-/// and 2, and hour h is hour ending h + 1, so the blocks start two hours before
-/// midnight. Those two hours keep the season of their own month.
+///
+/// The season is computed here by the formula floor((month mod 12) / 3) of
+/// W-203 and not looked up in the methodology's list of months. The two are
+/// different forms of one rule, which tests/seasons.rs compares. Season 0 is
+/// winter (12, 1, 2).
+///
+/// Block 0 is posted as hour endings 23, 24, 1 and 2, and hour h is hour ending
+/// h + 1, so the blocks start two hours before midnight. Those two hours keep
+/// the season of their own month.
 pub fn group_of(month: i64, hour: i64) -> usize {
     let season = month % 12 / 3;
     let block = ((hour + 2) % 24) / 4;

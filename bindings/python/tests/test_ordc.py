@@ -121,7 +121,7 @@ class Operations(unittest.TestCase):
         top = EXAMPLES.parents[2]
         places = {
             "Makefile": r"^VERSION := (\S+)$",
-            "CHANGELOG.md": r"^## (\S+)$",
+            "CHANGELOG.md": r"^## (\d\S*)$",  # the newest version, below what is not in one yet
             "bindings/rust/Cargo.toml": r'^version = "(\S+)"$',
             "bindings/python/pyproject.toml": r'^version = "(\S+)"$',
         }

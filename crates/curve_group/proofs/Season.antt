@@ -3,10 +3,10 @@ use Prim.Native.Nat.{ℕ, _/_, _%_, _≤_, _<_}
 use native.Mathlib.Omega.{arith}
 use mathlib.Core.Path.{_≡_, refl}
 use Rattle.curve_group.specs.Season.{seasonOf, blockOf, groupOf, groupSeason, groupBlock}
+use Rattle.curve_group.proofs.Listed.{season-number}
 
 pub season-below : (month : ℕ) → seasonOf month < 4
-unfolding seasonOf
-season-below month = omega arith
+season-below month = rw (season-number month) (omega arith)
 
 pub block-below : (hour : ℕ) → hour ≤ 23 → blockOf hour < 6
 unfolding blockOf

@@ -1,10 +1,9 @@
 -- Document 02, W-202: the time blocks as the market posts them.
 use Prim.Native.Nat.{ℕ, _+_, _≤_}
 use mathlib.Core.Path.{_≡_}
-use mathlib.Core.Bool.{Bool, false, _||_}
 use mathlib.Core.List.{List, [], _∷_, map}
 use lib.Dec.{eqb}
-use Rattle.curve_group.specs.Season.{blockOf}
+use Rattle.curve_group.specs.Season.{rowHas, blockOf}
 
 -- the posted table: the hour endings of each block, from block 0 on
 abbrev pub postedBlocks : List (List ℕ)
@@ -16,11 +15,6 @@ postedBlocks =
     ∷ (15 ∷ 16 ∷ 17 ∷ 18 ∷ [])
     ∷ (19 ∷ 20 ∷ 21 ∷ 22 ∷ [])
     ∷ []
-
--- whether a row has an hour ending
-abbrev pub rowHas : ℕ → List ℕ → Bool
-rowHas ending [] = false
-rowHas ending (one ∷ row) = eqb ending one || rowHas ending row
 
 -- hour h is hour ending h + 1: at each of the 24 hours the row of its block has its hour ending, and no other row has it
 abbrev pub BlocksAreAsPosted : Type 0

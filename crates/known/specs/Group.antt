@@ -1,4 +1,4 @@
--- Document 02, W-202: the groups of months and hours, and of an hour that is booked, each with what it is to be, worked out by hand.
+-- Document 02, W-202 and W-203: the groups of months and hours, and of an hour that is booked, each with what it is to be, worked out by hand.
 use Prim.Native.Nat.{ℕ}
 use mathlib.Core.List.{List, [], _∷_, _++_, map}
 use lib.IntN.{ℤ, pos}
@@ -47,6 +47,21 @@ groupValues =
     ∷ groupClaim 6 18 17
     -- hour ending 22 is the last of block 5
     ∷ groupClaim 9 21 23
+    -- the first and the last month of each season, at hour 10, hour ending 11, which is in block 3
+    ∷ groupClaim 12 10 3
+    ∷ groupClaim 2 10 3
+    ∷ groupClaim 3 10 9
+    ∷ groupClaim 5 10 9
+    ∷ groupClaim 6 10 15
+    ∷ groupClaim 8 10 15
+    ∷ groupClaim 9 10 21
+    ∷ groupClaim 11 10 21
+    -- months outside 1..12 are in season 0, also where the remainder by 12 is a month of another season: 3, 11 and 3 in the last three
+    ∷ groupClaim 0 10 3
+    ∷ groupClaim 13 10 3
+    ∷ groupClaim 15 10 3
+    ∷ groupClaim 23 10 3
+    ∷ groupClaim 18446744073709551615 10 3
     -- the hour of July is booked on group 16
     ∷ (countsAfter julyHour, replicate 16 (pos 0) ++ (pos 1 ∷ replicate 7 (pos 0)))
     ∷ []
