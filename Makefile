@@ -3,7 +3,7 @@
 #   make install PREFIX=/usr     header, both libraries and a pkg-config file
 #   make examples                the examples in C, Rust and Python
 #   make tests                   the tests of the bindings in Rust and Python
-#   make damaged                 damaged texts handed to every function, under valgrind
+#   make damaged                 damaged texts and values handed to every function, under valgrind
 #   make stack                   every function in a thread with the stack that the header promises to be enough
 #   make programs                the programs beside the second implementation, and the memory of `curves`
 #   make wrong-mains             wrong versions of the programs, each of which an input of `make programs` must tell
@@ -53,10 +53,12 @@ c-example: $(BUILD)/example
 
 rust-example: $(ARCHIVE)
 	cd bindings/rust && ORDC_LIB_DIR=$(BUILD) cargo run --offline --quiet --example listing
+	cd bindings/rust && ORDC_LIB_DIR=$(BUILD) cargo run --offline --quiet --example edit_snapshot
 
 python-example: $(SHARED)
 	PYTHONPATH=bindings/python ORDC_LIBRARY=$(SHARED) $(PYTHON) bindings/python/examples/price_folder.py bindings/python/examples/listing.curves bindings/python/examples/snapshots
 	PYTHONPATH=bindings/python ORDC_LIBRARY=$(SHARED) $(PYTHON) bindings/python/examples/print_page.py bindings/python/examples/listing.curves
+	PYTHONPATH=bindings/python ORDC_LIBRARY=$(SHARED) $(PYTHON) bindings/python/examples/edit_snapshot.py bindings/python/examples/listing.curves bindings/python/examples/snapshots/1-listing.txt C status OUT
 
 # the tests of the bindings
 tests: lib

@@ -3,18 +3,19 @@
  * Units: power in whole kW, money in whole cents per MWh, shares of one in billionths (1000000000 is 1).
  *
  * A text is lines `key=value`, each ended by byte 10, and is handed over as pointer and length. It needs no byte 0
- * at its end. A null pointer with length 0 is the empty text, and one with size 0 a buffer of no bytes. Texts, arrays
- * and buffers of one call must not overlap, and an array must have the size that the function names. Pointers to arrays
- * and numbers must not be null.
+ * at its end. A null pointer with length 0 is the empty text or no rows, and one with size 0 a buffer of no bytes.
+ * Texts, arrays, rows and buffers of one call must not overlap, and an array must have the size that the function
+ * names. Pointers to arrays and numbers must not be null.
  *
  * Every function returns a struct ordc_refusal. Number 0 means accepted, and then line is 0 too. Any other number is
- * a refusal, 1 to 14 below. On a refusal every array, buffer and number that was lent is as it was before the call.
+ * a refusal, 1 to 14 below. On a refusal every array, row, buffer and number that was lent is as it was before the
+ * call.
  *
  * No function keeps state, allocates or blocks. Calls from several threads on data of their own need no lock.
  *
  * A thread with a stack of ORDC_STACK bytes can make any of these calls, whatever is handed over. Of these bytes
- * ordc_price takes about 100 KiB, whether the snapshot is long or short, and the others less than 8 KiB each. This is
- * tested (bindings/c/stack.c) and not proved.
+ * ordc_price, ordc_read_snapshot, ordc_snapshot_length and ordc_write_snapshot take about 100 KiB each, whether the
+ * snapshot is long or short, and the others less than 8 KiB each. This is tested (bindings/c/stack.c) and not proved.
  *
  * The layout:
  *   record      ORDC_RECORD = 72 numbers: count, sum (kW) and sum of squares (kW^2) of the reserve errors of group 0,
@@ -31,6 +32,23 @@
  *               0..20000000), then mean (kW, -20000000..20000000) and spread (kW, 1..20000000) of group 0, of group 1,
  *               and so on to group 23. A curve set with a number outside its range is impossible.
  *   answer      ORDC_ANSWER = 6 numbers in the order of enum ordc_place.
+ *   snapshot    held as values, for hosts that change a reading or make a snapshot of their own:
+ *     header    ORDC_HEADER = 8 numbers: month hour lambda factor prc eea1 short count. In writing the eighth is not
+ *               looked at, and `count` is the number of resources held.
+ *     ids       a row of ORDC_ID_ROW = 32 bytes for each resource. The id is what stands in the first 16 before the
+ *               first byte 0, or all 16 where there is none. The last 16 are kept free for later use: leave them 0.
+ *     numbers   a row of ORDC_NUMBER_ROW = 9 numbers for each resource: at place 0 the kind (enum ordc_kind), at place
+ *               1 the status of a generator (enum ordc_status), then the numbers of the kind in the order of its lines:
+ *                 gen, wind, irr, nuke    net lsl hsl base nonspin cold30, at the places 2 to 7
+ *                 clr                     base lpc nonspin regup, at the places 2 to 5
+ *                 nclr                    rrsok net lpc rrs, at the places 2 to 5
+ *               Place 8 is kept free for later use: leave it 0.
+ *               Reading sets the bytes after an id and the places that a resource does not use to 0, of a load the
+ *               status too, and so what is kept free. Writing looks at none of these.
+ *               Lengths of ids and numbers are in bytes and in numbers. As many resources are held, or have space, as
+ *               there are whole rows of both: the lesser of ids_length / 32 and numbers_length / 9. What is left over
+ *               is neither looked at nor changed.
+ *               Ranges and units are those of the text (docs/FORMAT.md).
  */
 #ifndef ORDC_H
 #define ORDC_H
@@ -49,6 +67,10 @@ enum {
     ORDC_ANSWER = 6,
     ORDC_CURVE_TEXT = 700, /* no written curve text is longer */
     ORDC_PAGE = 1728,      /* every page has this many bytes */
+    ORDC_HEADER = 8,       /* numbers of a snapshot's header */
+    ORDC_ID_ROW = 32,      /* bytes in a resource's row of ids */
+    ORDC_NUMBER_ROW = 9,   /* numbers in a resource's row of numbers */
+    ORDC_RESOURCES = 4096, /* no snapshot has more resources */
     ORDC_STACK = 262144    /* no call needs a larger stack, in bytes */
 };
 
@@ -62,7 +84,29 @@ enum ordc_place {
     ORDC_OFFLINE = 5 /* off-line price adder, cents per MWh */
 };
 
-/* Refusal numbers, in checking order. The line counts from 1 within the text of the call and is 0 unless said. */
+/* The number of each kind, at place 0 of a row of numbers. */
+enum ordc_kind {
+    ORDC_GEN = 0,  /* any generator that is none of the next three */
+    ORDC_WIND = 1, /* wind generator */
+    ORDC_IRR = 2,  /* other intermittent generator */
+    ORDC_NUKE = 3, /* nuclear generator */
+    ORDC_CLR = 4,  /* controllable load */
+    ORDC_NCLR = 5  /* other load */
+};
+
+/* The number of each status, at place 1 of a generator's row. */
+enum ordc_status {
+    ORDC_ON = 0,
+    ORDC_OFF = 1,
+    ORDC_OFFNS = 2,
+    ORDC_ONTEST = 3,
+    ORDC_STARTUP = 4,
+    ORDC_SHUTDOWN = 5,
+    ORDC_OUT = 6
+};
+
+/* Refusal numbers, in checking order. The line counts from 1 within the text of the call, or within the text that the
+ * call would write, and is 0 unless said. */
 enum ordc_number {
     ORDC_ACCEPTED = 0,
     ORDC_IMPOSSIBLE_VALUES = 1, /* a record or a curve set that was handed in is impossible */
@@ -70,15 +114,18 @@ enum ordc_number {
     ORDC_LINE_ABSENT = 3,       /* the line due is absent or lacks its byte 10; gives that line */
     ORDC_WRONG_KEY = 4,         /* the line does not begin with the due key and `=`; gives that line */
     ORDC_EMPTY_VALUE = 5,       /* the value is empty; gives that line */
-    ORDC_BADLY_WRITTEN = 6,     /* the value is badly written or no listed word; gives that line */
-    ORDC_OUT_OF_RANGE = 7,      /* a number is outside its range; gives that line, 0 for VOLL and X at settling */
-    ORDC_REPEATED_ID = 8,       /* the id already stands above; gives that line */
+    ORDC_BADLY_WRITTEN = 6,     /* the value is badly written or no listed word, in writing an id that is empty or badly
+                                   written, or a number of no kind or status; gives that line */
+    ORDC_OUT_OF_RANGE = 7,      /* a number is outside its range; gives that line, 0 for VOLL and X at settling, 8 for
+                                   more than 4096 resources held */
+    ORDC_REPEATED_ID = 8,       /* the id already stands above; gives that line, which is the later of the two */
     ORDC_BYTES_FOLLOW = 9,      /* bytes follow the last due line; gives the line after it */
     ORDC_GROUP_FULL = 10,       /* the hour's group already has 1000 hours */
     ORDC_ERROR_TOO_LARGE = 11,  /* the reserve error lies beyond +-20000000 kW */
     ORDC_TOO_FEW_HOURS = 12,    /* a group has fewer than 2 hours; line is the first faulty group, 0..23 */
     ORDC_SPREAD_ZERO = 13,      /* a group has spread 0; line is that group, 0..23 */
-    ORDC_BUFFER_SHORT = 14      /* the buffer is shorter than the curve text or the page */
+    ORDC_BUFFER_SHORT = 14      /* the buffer is shorter than the text or the page, or the space lent is for fewer
+                                   resources than the snapshot has */
 };
 
 struct ordc_refusal {
@@ -140,6 +187,37 @@ struct ordc_refusal ordc_write_page(const int64_t curves[ORDC_CURVES], uint8_t *
  * Refusals: 1, 2, 3 to 8, 9. On a refusal answer is as before. */
 struct ordc_refusal ordc_price(const int64_t curves[ORDC_CURVES], const uint8_t *text, size_t length,
                                int64_t answer[ORDC_ANSWER]);
+
+/* Reads a snapshot's text into values.
+ *   text    the snapshot, as for ordc_price. A resource has at least 41 bytes, so space for length / 41 resources, or
+ *           for ORDC_RESOURCES where that is less, is always enough.
+ *   header  where accepted, all 8 numbers are written, the eighth being `count`.
+ *   ids, numbers
+ *           where accepted, the first `count` rows of each are written; what stands after them is as before.
+ * Refusals: 2, 3 to 8, 9, then 14. On a refusal header, ids and numbers are as before. */
+struct ordc_refusal ordc_read_snapshot(const uint8_t *text, size_t length, int64_t header[ORDC_HEADER], uint8_t *ids,
+                                       size_t ids_length, int64_t *numbers, size_t numbers_length);
+
+/* Tells how long the text of a snapshot held as values is; it has at most 495718 bytes.
+ *   header, ids, numbers
+ *           read only.
+ *   length  where accepted, the length in bytes of the text that ordc_write_snapshot writes.
+ * The lines are checked in the order in which they would be written: the header, of which line 8 is the number of
+ * resources held, then of each resource the id, the kind, the status of a generator and the numbers of the kind.
+ * Refusals: 6, 7 and 8 at the first line that has one. On a refusal length is as before. */
+struct ordc_refusal ordc_snapshot_length(const int64_t header[ORDC_HEADER], const uint8_t *ids, size_t ids_length,
+                                         const int64_t *numbers, size_t numbers_length, size_t *length);
+
+/* Writes the text of a snapshot held as values to the front of a buffer. The text is accepted, and reading it gives the
+ * same values, with 0 wherever writing does not look. An accepted text that is read and written gives its own bytes.
+ *   header, ids, numbers
+ *           read only.
+ *   buffer  where accepted, holds the text; bytes after the text are as before.
+ *   written where accepted, the text's length in bytes.
+ * Refusals: 6, 7 and 8 as in ordc_snapshot_length, then 14. On a refusal buffer and written are as before. */
+struct ordc_refusal ordc_write_snapshot(const int64_t header[ORDC_HEADER], const uint8_t *ids, size_t ids_length,
+                                        const int64_t *numbers, size_t numbers_length, uint8_t *buffer, size_t size,
+                                        size_t *written);
 
 #ifdef __cplusplus
 }

@@ -1,6 +1,7 @@
 //! The library beside the second implementation, on the same inputs in the same order in one run: time by phase and their
 //! ratio, bytes per second beside a plain scan for byte 10, and peak memory. A report, not a test.
 
+mod held;
 mod inputs;
 mod measure;
 
@@ -29,6 +30,16 @@ const LONG: Runs = Runs {
     together: 1,
     measured: 4,
 };
+
+/// How many resources the snapshots have, and how their ids look.
+const SNAPSHOTS: [(u64, Ids, &str); 6] = [
+    (1_500, Ids::Numbered, "resources"),
+    (4_096, Ids::Numbered, "resources"),
+    (1_024, Ids::Random, "ids at random"),
+    (4_096, Ids::Random, "ids at random"),
+    (1_024, Ids::Prefixed, "ids of one prefix"),
+    (4_096, Ids::Prefixed, "ids of one prefix"),
+];
 
 fn booked_by_library(hours: &[Vec<u8>]) -> ordc::Record {
     let mut record = ordc::Record::default();
@@ -167,17 +178,18 @@ fn report() {
     let curves = ordc::CurveSet::from_text(&text).expect("the curves are accepted");
     let plain = reference::read_curves(&text).expect("the curves are accepted");
     heading();
-    for (count, ids, name) in [
-        (1_500, Ids::Numbered, "resources"),
-        (4_096, Ids::Numbered, "resources"),
-        (1_024, Ids::Random, "ids at random"),
-        (4_096, Ids::Random, "ids at random"),
-        (1_024, Ids::Prefixed, "ids of one prefix"),
-        (4_096, Ids::Prefixed, "ids of one prefix"),
-    ] {
+    for (count, ids, name) in SNAPSHOTS {
         price(&curves, &plain, count, ids, name);
     }
+    let beside: Vec<String> = SNAPSHOTS
+        .into_iter()
+        .map(|(count, ids, name)| held::snapshots(&curves, count, ids, name))
+        .collect();
     history();
+    println!("{}", held::heading());
+    for line in beside {
+        println!("{line}");
+    }
 }
 
 /// The most memory that this process held, in kB.

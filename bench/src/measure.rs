@@ -90,3 +90,18 @@ pub fn row<T, U, A, B>(
         rate(scanned, texts.len())
     );
 }
+
+/// How many times as long as the second phase the first takes on the same inputs: the least time of each, measured by turns.
+pub fn ratio<T, A, B>(
+    runs: Runs,
+    inputs: &[T],
+    mut first: impl FnMut(&T) -> A,
+    mut second: impl FnMut(&T) -> B,
+) -> f64 {
+    let (mut one, mut other) = (f64::INFINITY, f64::INFINITY);
+    for _ in 0..runs.measured {
+        one = one.min(measure(runs.together, inputs, &mut first));
+        other = other.min(measure(runs.together, inputs, &mut second));
+    }
+    one / other
+}

@@ -1,6 +1,7 @@
 /* Hands damaged texts to every function, each text in a block of exactly its size, so that a memory checker sees any
  * byte that is touched beyond it. Checks that a refusal leaves what was lent, and that its number is one that the
- * function can give. Pages are written to blocks of exactly the size that is named, from possible and impossible sets. */
+ * function can give. Pages are written to blocks of exactly the size that is named, from possible and impossible sets.
+ * Snapshots are read into rows and written from damaged rows, all of them in blocks of exactly their size. */
 #include "ordc.h"
 
 #include <stdio.h>
@@ -17,6 +18,8 @@ static const char SNAPSHOT[] =
     "id=A\nkind=gen\nstatus=ON\nnet=200000\nlsl=100000\nhsl=2000000\nbase=200000\nnonspin=0\ncold30=0\n"
     "id=B\nkind=clr\nbase=1000\nlpc=10\nnonspin=5\nregup=6\n"
     "id=C\nkind=nclr\nrrsok=1\nnet=10\nlpc=0\nrrs=3\n";
+
+enum { MARK = 0xa5 };
 
 static uint64_t state = 1;
 
@@ -114,7 +117,6 @@ static void check_rows(const uint8_t *page)
 /* Writes a page to a block of so many bytes, or to a null pointer; the answer must have this number. */
 static void page(const int64_t set[ORDC_CURVES], size_t size, int null, uint64_t number)
 {
-    enum { MARK = 0xa5 };
     int64_t *lent = malloc(ORDC_CURVES * sizeof *lent);
     uint8_t *buffer = null ? NULL : malloc(size);
     if (lent == NULL || (buffer == NULL && size > 0)) {
@@ -139,6 +141,182 @@ static void page(const int64_t set[ORDC_CURVES], size_t size, int null, uint64_t
     }
     free(buffer);
     free(lent);
+}
+
+/* A block of exactly so many bytes, filled with a mark; of none, a null pointer. */
+static void *marked(size_t size)
+{
+    void *block = size > 0 ? malloc(size) : NULL;
+    if (size > 0) {
+        if (block == NULL) {
+            exit(EXIT_FAILURE);
+        }
+        memset(block, MARK, size);
+    }
+    return block;
+}
+
+/* Whether all bytes from the first of these places to the second hold the mark. */
+static int stayed(const void *block, size_t from, size_t to)
+{
+    while (from < to && ((const uint8_t *)block)[from] == MARK) {
+        from++;
+    }
+    return from >= to;
+}
+
+static void expect(int holds, const char *what, struct ordc_refusal refusal)
+{
+    if (!holds) {
+        fprintf(stderr, "%s: number %u, line %u\n", what, (unsigned)refusal.number, (unsigned)refusal.line);
+        exit(EXIT_FAILURE);
+    }
+}
+
+/* A snapshot held as values, or space for one. */
+struct values {
+    int64_t *header, *numbers;
+    uint8_t *ids;
+    size_t ids_length, numbers_length;
+};
+
+static struct values space(size_t ids_length, size_t numbers_length)
+{
+    return (struct values){marked(ORDC_HEADER * sizeof(int64_t)), marked(numbers_length * sizeof(int64_t)), marked(ids_length),
+                           ids_length, numbers_length};
+}
+
+static void release(struct values held)
+{
+    free(held.header);
+    free(held.numbers);
+    free(held.ids);
+}
+
+static struct ordc_refusal read_values(const uint8_t *text, size_t length, struct values held)
+{
+    return ordc_read_snapshot(text, length, held.header, held.ids, held.ids_length, held.numbers, held.numbers_length);
+}
+
+static struct ordc_refusal write_values(struct values held, uint8_t *buffer, size_t size, size_t *written)
+{
+    return ordc_write_snapshot(held.header, held.ids, held.ids_length, held.numbers, held.numbers_length, buffer, size, written);
+}
+
+/* Reads a text into rows that may be too few, unequal in number or cut off. Where it is accepted the values give the
+ * text back. */
+static long read_snapshot(const uint8_t *text, size_t length)
+{
+    struct values held = space(below(8 * ORDC_ID_ROW), below(8 * ORDC_NUMBER_ROW));
+    struct ordc_refusal refusal = read_values(text, length, held);
+    check("read snapshot", refusal, "001111111100001", "", "", 0);
+    int accepted = refusal.number == ORDC_ACCEPTED;
+    size_t resources = accepted ? (size_t)held.header[7] : 0;
+    size_t id_bytes = resources * ORDC_ID_ROW, numbers = resources * ORDC_NUMBER_ROW, number = sizeof(int64_t);
+    expect(accepted || stayed(held.header, 0, ORDC_HEADER * number), "read snapshot, header", refusal);
+    expect(id_bytes <= held.ids_length && numbers <= held.numbers_length, "read snapshot, space", refusal);
+    expect(stayed(held.ids, id_bytes, held.ids_length), "read snapshot, ids", refusal);
+    expect(stayed(held.numbers, numbers * number, held.numbers_length * number), "read snapshot, numbers", refusal);
+    if (accepted) {
+        struct values read = {held.header, held.numbers, held.ids, id_bytes, numbers};
+        uint8_t *buffer = marked(length);
+        size_t written = 77;
+        refusal = write_values(read, buffer, length, &written);
+        expect(refusal.number == ORDC_ACCEPTED && written == length, "writing what was read", refusal);
+        expect(memcmp(buffer, text, length) == 0, "what was read and written", refusal);
+        free(buffer);
+    }
+    release(held);
+    return accepted;
+}
+
+/* A number at the end of a range or beyond it, or any. */
+static int64_t any_number(void)
+{
+    static const int64_t NUMBERS[] = {INT64_MIN, -2000001, -2000000, -1, 0, 1, 2, 4, 5, 6, 7, 12, 13, 23, 24, 10000, 10001,
+                                      2000000, 2000001, 200000000, 200000001, INT64_MAX};
+    size_t choice = below(sizeof NUMBERS / sizeof NUMBERS[0] + 1);
+    return choice < sizeof NUMBERS / sizeof NUMBERS[0] ? NUMBERS[choice] : (int64_t)(state ^ state << 31);
+}
+
+/* The values of SNAPSHOT with up to three damages: a number or a byte of an id changed, a row of ids put over another,
+ * rows taken off or cut. */
+static struct values damaged_values(void)
+{
+    static const char BYTES[] = "09AZ_az-? \n\0\xff";
+    struct values whole = space(3 * ORDC_ID_ROW, 3 * ORDC_NUMBER_ROW);
+    struct ordc_refusal refusal = read_values((const uint8_t *)SNAPSHOT, strlen(SNAPSHOT), whole);
+    expect(refusal.number == ORDC_ACCEPTED, "the values", refusal);
+    size_t ids_length = whole.ids_length, numbers_length = whole.numbers_length;
+    for (size_t turns = below(4); turns > 0; turns--) {
+        size_t row = below(3) * ORDC_ID_ROW, other = below(3) * ORDC_ID_ROW;
+        switch (below(6)) {
+        case 0:
+            whole.header[below(ORDC_HEADER)] = any_number();
+            break;
+        case 1:
+            whole.numbers[below(whole.numbers_length)] = any_number();
+            break;
+        case 2:
+            whole.ids[row + below(20)] = (uint8_t)BYTES[below(sizeof BYTES)];
+            break;
+        case 3:
+            memmove(whole.ids + row, whole.ids + other, ORDC_ID_ROW);
+            break;
+        case 4:
+            ids_length = below(ids_length + 1);
+            break;
+        default:
+            numbers_length = below(numbers_length + 1);
+        }
+    }
+    struct values held = space(ids_length, numbers_length);
+    memcpy(held.header, whole.header, ORDC_HEADER * sizeof(int64_t));
+    if (ids_length > 0) {
+        memcpy(held.ids, whole.ids, ids_length);
+    }
+    if (numbers_length > 0) {
+        memcpy(held.numbers, whole.numbers, numbers_length * sizeof(int64_t));
+    }
+    release(whole);
+    return held;
+}
+
+/* Writes damaged values to a block of exactly the size that is named. What is written is priced, and read and written
+ * again. */
+static long write_snapshot(const int64_t curves[ORDC_CURVES])
+{
+    struct values held = damaged_values();
+    size_t length = 77, written = 77;
+    struct ordc_refusal measured = ordc_snapshot_length(held.header, held.ids, held.ids_length, held.numbers, held.numbers_length, &length);
+    check("snapshot length", measured, "000000111000000", "", "", 0);
+    int possible = measured.number == ORDC_ACCEPTED;
+    expect(possible || (length == 77 && measured.line > 0), "snapshot length, refused", measured);
+    size_t sizes[] = {0, length - 1, length, length + 1, below(600)}, size = sizes[below(5)];
+    uint8_t *buffer = marked(size);
+    struct ordc_refusal refusal = write_values(held, buffer, size, &written);
+    int fits = possible && length <= size;
+    uint64_t number = !possible ? measured.number : fits ? ORDC_ACCEPTED : ORDC_BUFFER_SHORT;
+    expect(refusal.number == number && refusal.line == measured.line, "write snapshot", refusal);
+    expect(written == (fits ? length : 77) && stayed(buffer, fits ? length : 0, size), "write snapshot, buffer", refusal);
+    if (fits) {
+        int64_t answer[ORDC_ANSWER];
+        refusal = ordc_price(curves, buffer, length, answer);
+        expect(refusal.number == ORDC_ACCEPTED, "pricing what was written", refusal);
+        uint8_t *text = marked(length);
+        memcpy(text, buffer, length);
+        /* the text has a resource for each whole row of both sorts, so that its values have space where they came from */
+        refusal = read_values(text, length, held);
+        expect(refusal.number == ORDC_ACCEPTED, "reading what was written", refusal);
+        memset(buffer, MARK, size);
+        refusal = write_values(held, buffer, size, &written);
+        expect(refusal.number == ORDC_ACCEPTED && written == length, "writing it again", refusal);
+        expect(memcmp(text, buffer, length) == 0, "what was written again", refusal);
+        free(text);
+    }
+    free(buffer);
+    release(held);
+    return fits;
 }
 
 int main(int count, char **arguments)
@@ -209,7 +387,9 @@ int main(int count, char **arguments)
         refusal = ordc_price(curves, text, length, answer);
         check("price", refusal, "001111111100000", was, answer, sizeof was);
         accepted += refusal.number == ORDC_ACCEPTED;
+        accepted += read_snapshot(text, length);
         free(text);
+        accepted += write_snapshot(curves);
     }
     printf("turns=%ld\naccepted=%ld\n", turns, accepted);
     return EXIT_SUCCESS;

@@ -1,4 +1,5 @@
-/* Books hours, settles them, writes and reads the curve text, then prices a snapshot and prints the page of its curves. */
+/* Books hours, settles them, writes and reads the curve text, then prices a snapshot and prints the page of its curves.
+ * Last it reads the snapshot into values, takes one unit out of service, writes the text and prices that too. */
 #include "ordc.h"
 
 #include <inttypes.h>
@@ -56,6 +57,52 @@ static void expect_listing(const uint8_t page[ORDC_PAGE])
     }
 }
 
+static void print_prices(const char *name, const int64_t answer[ORDC_ANSWER])
+{
+    printf("%s: rsns=%" PRId64 " online=%" PRId64 " offline=%" PRId64 "\n", name, answer[ORDC_RSNS], answer[ORDC_ONLINE],
+           answer[ORDC_OFFLINE]);
+}
+
+/* Prices the snapshot as it is, and with C out of service. */
+static void edit_snapshot(const int64_t curves[ORDC_CURVES])
+{
+    enum { RESOURCES = 3 };
+    int64_t header[ORDC_HEADER];
+    uint8_t ids[RESOURCES * ORDC_ID_ROW];
+    int64_t numbers[RESOURCES * ORDC_NUMBER_ROW];
+    const size_t ids_length = sizeof ids, numbers_length = sizeof numbers / sizeof numbers[0];
+    int64_t answer[ORDC_ANSWER];
+    size_t length = 0, written = 0;
+
+    expect_accepted("price", ordc_price(curves, (const uint8_t *)SNAPSHOT, sizeof SNAPSHOT - 1, answer));
+    print_prices("as read", answer);
+    expect_accepted("read snapshot", ordc_read_snapshot((const uint8_t *)SNAPSHOT, sizeof SNAPSHOT - 1, header, ids, ids_length,
+                                                        numbers, numbers_length));
+    for (int64_t i = 0; i < header[7]; i++) {
+        /* bytes 0 follow an id that has fewer than 16 bytes */
+        if (memcmp(ids + i * ORDC_ID_ROW, "C", 2) == 0) {
+            numbers[i * ORDC_NUMBER_ROW + 1] = ORDC_OUT;
+        }
+    }
+    expect_accepted("length", ordc_snapshot_length(header, ids, ids_length, numbers, numbers_length, &length));
+    uint8_t *text = malloc(length);
+    if (text == NULL) {
+        exit(EXIT_FAILURE);
+    }
+    expect_accepted("write snapshot", ordc_write_snapshot(header, ids, ids_length, numbers, numbers_length, text, length, &written));
+    expect_accepted("price", ordc_price(curves, text, written, answer));
+    print_prices("C is OUT", answer);
+
+    /* What a refusal looks like: no space for the three resources, a buffer of one byte too few, an HSL below zero in
+     * the last resource, whose lines are 27 to 35. */
+    expect_refused("no rows", ordc_read_snapshot(text, written, header, NULL, 0, NULL, 0), ORDC_BUFFER_SHORT, 0);
+    expect_refused("short buffer", ordc_write_snapshot(header, ids, ids_length, numbers, numbers_length, text, length - 1, &written),
+                   ORDC_BUFFER_SHORT, 0);
+    numbers[2 * ORDC_NUMBER_ROW + 4] = -1;
+    expect_refused("hsl", ordc_snapshot_length(header, ids, ids_length, numbers, numbers_length, &length), ORDC_OUT_OF_RANGE, 32);
+    free(text);
+}
+
 int main(void)
 {
     int64_t record[ORDC_RECORD] = {0};
@@ -106,5 +153,6 @@ int main(void)
     expect_accepted("page", ordc_write_page(curves, page, sizeof page));
     expect_listing(page);
     fwrite(page, 1, sizeof page, stdout);
+    edit_snapshot(curves);
     return EXIT_SUCCESS;
 }

@@ -20,6 +20,11 @@ static uint8_t *page_buffer;
 static size_t page_size;
 static char text[1 << 20];
 static size_t length;
+static int64_t header[ORDC_HEADER], numbers[ORDC_RESOURCES * ORDC_NUMBER_ROW];
+static uint8_t ids[ORDC_RESOURCES * ORDC_ID_ROW];
+static size_t resources;
+static uint8_t snapshot_text[1 << 20];
+static size_t snapshot_size, snapshot_length;
 static struct ordc_refusal refusal;
 
 static void add(const char *form, ...)
@@ -41,12 +46,12 @@ static void hour(int month, int clock, int runs, int power)
 }
 
 /* A snapshot of so many resources, of every kind. */
-static void snapshot(int resources)
+static void snapshot(int count)
 {
     static const char *const KINDS[] = {"gen", "wind", "irr", "nuke"};
     length = 0;
-    add("month=7\nhour=14\nlambda=2500\nfactor=9500\nprc=3000000\neea1=2300000\nshort=0\ncount=%d\n", resources);
-    for (int i = 0; i < resources; i++) {
+    add("month=7\nhour=14\nlambda=2500\nfactor=9500\nprc=3000000\neea1=2300000\nshort=0\ncount=%d\n", count);
+    for (int i = 0; i < count; i++) {
         add("id=RESOURCE_%d\n", i);
         if (i % 8 == 6) {
             add("kind=clr\nbase=2000\nlpc=10\nnonspin=5\nregup=6\n");
@@ -96,6 +101,24 @@ static void *write_page(void *none)
 static void *price(void *none)
 {
     refusal = ordc_price(curves, (const uint8_t *)text, length, answer);
+    return none;
+}
+
+static void *read_snapshot(void *none)
+{
+    refusal = ordc_read_snapshot((const uint8_t *)text, length, header, ids, resources * ORDC_ID_ROW, numbers, resources * ORDC_NUMBER_ROW);
+    return none;
+}
+
+static void *measure_snapshot(void *none)
+{
+    refusal = ordc_snapshot_length(header, ids, resources * ORDC_ID_ROW, numbers, resources * ORDC_NUMBER_ROW, &snapshot_length);
+    return none;
+}
+
+static void *write_snapshot(void *none)
+{
+    refusal = ordc_write_snapshot(header, ids, resources * ORDC_ID_ROW, numbers, resources * ORDC_NUMBER_ROW, snapshot_text, snapshot_size, &snapshot_length);
     return none;
 }
 
@@ -151,6 +174,38 @@ static void pages(int possible)
     }
 }
 
+/* The three calls on a snapshot of so many resources, accepted and refused as late as may be. */
+static void values(int count)
+{
+    char what[64];
+    snapshot(count);
+    resources = (size_t)count - 1;
+    snprintf(what, sizeof what, "read snapshot, space for %d", count - 1);
+    try_call(what, read_snapshot, ORDC_BUFFER_SHORT);
+    resources = (size_t)count;
+    snprintf(what, sizeof what, "read snapshot, %d resources", count);
+    try_call(what, read_snapshot, ORDC_ACCEPTED);
+    snprintf(what, sizeof what, "snapshot length, %d resources", count);
+    try_call(what, measure_snapshot, ORDC_ACCEPTED);
+    expect(snapshot_length == length, what);
+    snprintf(what, sizeof what, "write snapshot, %d resources", count);
+    snapshot_size = length;
+    try_call(what, write_snapshot, ORDC_ACCEPTED);
+    expect(snapshot_length == length && memcmp(snapshot_text, text, length) == 0, what);
+    snprintf(what, sizeof what, "write snapshot, %d, short buffer", count);
+    snapshot_size = length - 1;
+    try_call(what, write_snapshot, ORDC_BUFFER_SHORT);
+    /* the id of the last resource is that of the one before */
+    memcpy(ids + (resources - 1) * ORDC_ID_ROW, ids + (resources - 2) * ORDC_ID_ROW, ORDC_ID_ROW);
+    snprintf(what, sizeof what, "snapshot length, %d, repeated id", count);
+    try_call(what, measure_snapshot, ORDC_REPEATED_ID);
+    snprintf(what, sizeof what, "write snapshot, %d, repeated id", count);
+    try_call(what, write_snapshot, ORDC_REPEATED_ID);
+    text[length++] = '\n';
+    snprintf(what, sizeof what, "read snapshot, a byte after %d", count);
+    try_call(what, read_snapshot, ORDC_BYTES_FOLLOW);
+}
+
 int main(void)
 {
     try_call("a thread that calls nothing", nothing, ORDC_ACCEPTED);
@@ -186,6 +241,10 @@ int main(void)
     try_call("price, 4096 resources", price, ORDC_ACCEPTED);
     text[length++] = '\n';
     try_call("price, a byte after 4096 resources", price, ORDC_BYTES_FOLLOW);
+    values(3);
+    values(64);
+    values(65);
+    values(ORDC_RESOURCES);
     printf("at most %zu of %d bytes\n", most, (int)ORDC_STACK);
     return EXIT_SUCCESS;
 }

@@ -1,6 +1,6 @@
 //! How cases are written down, and a reader of it.
 
-use crate::{buffer, curve_numbers, record_numbers, Case, Input, Text};
+use crate::{buffer, curve_numbers, record_numbers, Case, Edit, Input, Text};
 use reference::{CurveSet, Group, Record, GROUPS};
 
 /// The numbers of the operations.
@@ -13,6 +13,13 @@ const PRICE_PROGRAM: i64 = 5;
 const CURVES_PROGRAM: i64 = 6;
 const WRITE_PAGE: i64 = 7;
 const PAGE_PROGRAM: i64 = 8;
+const READ_VALUES: i64 = 9;
+const WRITE_VALUES: i64 = 10;
+
+/// The numbers of the arrays that an edit can be of.
+const HEADER: i64 = 0;
+const IDS: i64 = 1;
+const NUMBERS: i64 = 2;
 
 /// Equal bytes at the end of a text that are written down once.
 const LONG_RUN: usize = 24;
@@ -69,6 +76,34 @@ impl Writer {
                 self.text(text.bytes(), CURVES_PROGRAM);
                 self.numbers(&[*first as i64]);
             }
+            Input::ReadValues { text, ids, numbers } => {
+                self.text(text.bytes(), READ_VALUES);
+                self.numbers(&[*ids as i64, *numbers as i64]);
+            }
+            Input::WriteValues {
+                text,
+                edits,
+                ids,
+                numbers,
+                length,
+            } => {
+                self.text(text.bytes(), WRITE_VALUES);
+                self.edits(edits);
+                self.numbers(&[*ids as i64, *numbers as i64, *length as i64]);
+            }
+        }
+    }
+
+    /// So many edits, each its array, place and value.
+    fn edits(&mut self, edits: &[Edit]) {
+        self.numbers(&[edits.len() as i64]);
+        for edit in edits {
+            let (array, place, value) = match *edit {
+                Edit::Header(place, value) => (HEADER, place, value),
+                Edit::Ids(place, byte) => (IDS, place, i64::from(byte)),
+                Edit::Numbers(place, value) => (NUMBERS, place, value),
+            };
+            self.numbers(&[array, place as i64, value]);
         }
     }
 
@@ -147,6 +182,20 @@ impl<'a> Reader<'a> {
         Some(CurveSet { voll, floor, pairs })
     }
 
+    fn length(&mut self) -> Option<usize> {
+        usize::try_from(self.number()?).ok()
+    }
+
+    fn edit(&mut self) -> Option<Edit> {
+        let (array, place, value) = (self.number()?, self.length()?, self.number()?);
+        Some(match array {
+            HEADER => Edit::Header(place, value),
+            IDS => Edit::Ids(place, value.try_into().ok()?),
+            NUMBERS => Edit::Numbers(place, value),
+            _ => return None,
+        })
+    }
+
     fn input(&mut self, text: &[u8]) -> Option<Input> {
         let length = text.len();
         let text = Text::from(text);
@@ -178,6 +227,20 @@ impl<'a> Reader<'a> {
             CURVES_PROGRAM => Input::CurvesProgram {
                 text,
                 first: self.number()? as usize,
+            },
+            READ_VALUES => Input::ReadValues {
+                text,
+                ids: self.length()?,
+                numbers: self.length()?,
+            },
+            WRITE_VALUES => Input::WriteValues {
+                text,
+                edits: (0..self.number()?)
+                    .map(|_| self.edit())
+                    .collect::<Option<_>>()?,
+                ids: self.length()?,
+                numbers: self.length()?,
+                length: self.length()?,
             },
             _ => return None,
         })

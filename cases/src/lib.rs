@@ -5,13 +5,17 @@
 mod book;
 mod curve_text;
 mod format;
+mod held;
 mod page;
 mod price;
 mod programs;
+mod read_values;
 mod settle;
 mod texts;
+mod write_values;
 
 pub use format::{decode, encode};
+pub use held::{checksum_of_numbers, Edit, LONGEST_BUFFER, MOST_EDITS, ROWS};
 pub use random::Random;
 
 use reference::{
@@ -102,6 +106,21 @@ pub enum Input {
     PageProgram {
         text: Text,
     },
+    /// A snapshot's text read into space of so many bytes and so many numbers.
+    ReadValues {
+        text: Text,
+        ids: usize,
+        numbers: usize,
+    },
+    /// The values of a snapshot's text, edited, of which so many bytes and so
+    /// many numbers are written into a buffer of so many bytes.
+    WriteValues {
+        text: Text,
+        edits: Vec<Edit>,
+        ids: usize,
+        numbers: usize,
+        length: usize,
+    },
 }
 
 impl Input {
@@ -116,6 +135,8 @@ impl Input {
             Input::CurvesProgram { .. } => 'c',
             Input::WritePage { .. } => 'G',
             Input::PageProgram { .. } => 'g',
+            Input::ReadValues { .. } => 'V',
+            Input::WriteValues { .. } => 'T',
         }
     }
 }
@@ -135,6 +156,8 @@ pub enum Answer {
     Refused(Refusal, Vec<i64>),
     /// The lines that a program prints.
     Printed(String),
+    /// The answers of two calls on the same values.
+    Two(Box<Answer>, Box<Answer>),
 }
 
 impl Answer {
@@ -148,10 +171,12 @@ impl Answer {
                 format!("refused {number} line {line}{}", numbers(values))
             }
             Answer::Printed(lines) => lines.replace('\n', " "),
+            Answer::Two(first, second) => format!("{} {}", first.line(), second.line()),
         }
     }
 
-    /// The number of the refusal, 0 where the input is accepted.
+    /// The number of the refusal, 0 where the input is accepted. Of two answers
+    /// the second counts.
     pub fn number(&self) -> u32 {
         match self {
             Answer::Accepted(_) => 0,
@@ -163,6 +188,7 @@ impl Answer {
                     .and_then(|line| line.strip_prefix("refused="));
                 number.map_or(0, |number| number.parse().expect("a refusal has a number"))
             }
+            Answer::Two(_, second) => second.number(),
         }
     }
 }
@@ -240,6 +266,16 @@ pub fn answer(input: &Input) -> Answer {
             }
         }
         Input::PageProgram { text } => printed(run_page(&text.bytes())),
+        Input::ReadValues { text, ids, numbers } => {
+            held::read_answer(&text.bytes(), *ids, *numbers)
+        }
+        Input::WriteValues {
+            text,
+            edits,
+            ids,
+            numbers,
+            length,
+        } => held::write_answer(&text.bytes(), edits, *ids, *numbers, *length),
     }
 }
 
@@ -261,11 +297,13 @@ pub fn all_cases(seed: u64) -> Vec<Case> {
     price::add(&mut cases, &mut random);
     programs::add(&mut cases, &mut random);
     page::add(&mut cases, &mut random);
+    read_values::add(&mut cases, &mut random);
+    write_values::add(&mut cases, &mut random);
     cases
 }
 
 /// The refusal numbers that each operation can give.
-pub const CAN_REFUSE: [(char, &[u32]); 9] = [
+pub const CAN_REFUSE: [(char, &[u32]); 11] = [
     ('B', &[1, 2, 3, 4, 5, 6, 7, 9, 10, 11]),
     ('S', &[1, 7, 12, 13]),
     ('R', &[2, 3, 4, 5, 6, 7, 9]),
@@ -275,6 +313,8 @@ pub const CAN_REFUSE: [(char, &[u32]); 9] = [
     ('c', &[2, 3, 4, 5, 6, 7, 9, 10, 11, 12, 13]),
     ('G', &[1, 14]),
     ('g', &[2, 3, 4, 5, 6, 7, 9]),
+    ('V', &[2, 3, 4, 5, 6, 7, 8, 9, 14]),
+    ('T', &[6, 7, 8, 14]),
 ];
 
 /// How often each answer came: by operation and refusal number, 0 standing

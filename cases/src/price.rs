@@ -6,8 +6,8 @@ use crate::texts::*;
 use crate::{Case, Input, Random, Text};
 use reference::{pi_ns, pi_s, CurveSet, BILLION, GROUPS};
 
-const POWER: i64 = 2_000_000;
-const SNAPSHOT_LIMIT: usize = 1_048_576;
+pub const POWER: i64 = 2_000_000;
+pub const SNAPSHOT_LIMIT: usize = 1_048_576;
 
 pub fn add(cases: &mut Vec<Case>, random: &mut Random) {
     worked_example(cases);
@@ -33,13 +33,13 @@ pub fn add(cases: &mut Vec<Case>, random: &mut Random) {
 /// A header; the fields that a case is not about are out of its way.
 #[derive(Clone, Copy)]
 pub struct Header {
-    month: i64,
-    hour: i64,
-    lambda: i64,
-    factor: i64,
-    prc: i64,
-    eea1: i64,
-    short: i64,
+    pub month: i64,
+    pub hour: i64,
+    pub lambda: i64,
+    pub factor: i64,
+    pub prc: i64,
+    pub eea1: i64,
+    pub short: i64,
 }
 
 pub const HEADER: Header = Header {
@@ -81,7 +81,7 @@ pub fn generator(id: &str, kind: &str, status: &str, numbers: [i64; 6]) -> Strin
     )
 }
 
-fn clr(id: &str, base: i64, lpc: i64, nonspin: i64, regup: i64) -> String {
+pub fn clr(id: &str, base: i64, lpc: i64, nonspin: i64, regup: i64) -> String {
     format!("id={id} kind=clr base={base} lpc={lpc} nonspin={nonspin} regup={regup}")
 }
 
@@ -161,7 +161,7 @@ fn worked_example(cases: &mut Vec<Case>) {
 }
 
 /// One resource of each form, with what each line may hold.
-fn one_of_each() -> (Lines, Vec<Due>) {
+pub fn one_of_each() -> (Lines, Vec<Due>) {
     let lines = snapshot(
         &HEADER,
         &[
@@ -797,7 +797,7 @@ fn power(random: &mut Random) -> i64 {
     random.within(0, most)
 }
 
-fn random_resource(random: &mut Random, id: &str) -> String {
+pub fn random_resource(random: &mut Random, id: &str) -> String {
     let flag = random.within(0, 1);
     match random.within(0, 9) {
         0 | 1 => clr(

@@ -1,10 +1,10 @@
 //! The cases as a whole: that they can be read back, and what they cover.
 
 use cases::{
-    all_cases, answer, buffer, checksum, decode, encode, tally, Answer, Case, Input, Text,
-    CAN_REFUSE,
+    all_cases, answer, buffer, checksum, checksum_of_numbers, decode, encode, tally, Answer, Case,
+    Edit, Input, Text, CAN_REFUSE, LONGEST_BUFFER, MOST_EDITS, ROWS,
 };
-use reference::{write_page, Refusal};
+use reference::{held_text, read_held, write_page, Refusal, ID_ROW, NUMBER_ROW};
 use std::collections::BTreeSet;
 
 fn answers(cases: &[Case]) -> Vec<Answer> {
@@ -19,7 +19,9 @@ fn text_of(input: &mut Input) -> Option<&mut Text> {
         | Input::Price { text, .. }
         | Input::PriceProgram { text }
         | Input::CurvesProgram { text, .. }
-        | Input::PageProgram { text } => Some(text),
+        | Input::PageProgram { text }
+        | Input::ReadValues { text, .. }
+        | Input::WriteValues { text, .. } => Some(text),
         Input::Settle { .. } | Input::Write { .. } | Input::WritePage { .. } => None,
     }
 }
@@ -52,13 +54,32 @@ fn there_are_enough_cases_and_they_are_small() {
     let cases = all_cases(1);
     assert!(cases.len() >= 2000);
     let answers: usize = answers(&cases).iter().map(|one| one.line().len() + 1).sum();
-    assert!(encode(&cases).len() + answers < 5_000_000);
+    assert!(encode(&cases).len() + answers < 6_000_000);
     for case in &cases {
         if let Some(text) = text_of(&mut case.input.clone()) {
             assert!(text.bytes().len() <= 1_048_577, "{}", case.label);
         }
         assert!(!case.label.contains('\n'), "{:?}", case.label);
+        match &case.input {
+            Input::ReadValues { ids, numbers, .. } => fits_the_rows(*ids, *numbers),
+            Input::WriteValues {
+                edits,
+                ids,
+                numbers,
+                length,
+                ..
+            } => {
+                fits_the_rows(*ids, *numbers);
+                assert!(edits.len() <= MOST_EDITS, "{}", case.label);
+                assert!(*length <= LONGEST_BUFFER, "{}", case.label);
+            }
+            _ => {}
+        }
     }
+}
+
+fn fits_the_rows(ids: usize, numbers: usize) {
+    assert!(ids <= ROWS * ID_ROW && numbers <= ROWS * NUMBER_ROW);
 }
 
 #[test]
@@ -87,6 +108,7 @@ fn refusal_of(answer: &Answer) -> Option<Refusal> {
                 line: line.parse().unwrap(),
             })
         }
+        Answer::Two(_, second) => refusal_of(second),
     }
 }
 
@@ -107,6 +129,7 @@ fn refusals_come_at_the_first_a_middle_and_the_last_line() {
             ('R', [1, 2, 3, 24, 49, 50]),
             ('P', [1, 8, 12, 20, 29, 36_872]),
             ('g', [1, 2, 25, 26, 49, 50]),
+            ('V', [1, 8, 12, 20, 29, 36_872]),
         ] {
             for line in places {
                 assert!(
@@ -137,9 +160,221 @@ fn refusals_come_at_the_first_a_middle_and_the_last_line() {
         ('S', 13, 0),
         ('S', 13, 11),
         ('S', 13, 23),
+        ('V', 2, 0),
+        ('V', 8, 15),
+        ('V', 8, 21),
+        ('V', 8, 36_864),
+        ('V', 9, 9),
+        ('V', 9, 30),
+        ('V', 9, 36_873),
+        ('V', 14, 0),
+        // Where values are written 6 comes at words alone, and 7 never there.
+        ('T', 6, 9),
+        ('T', 6, 10),
+        ('T', 6, 11),
+        ('T', 6, 46),
+        ('T', 6, 36_864),
+        ('T', 6, 36_865),
+        ('T', 6, 36_866),
+        ('T', 7, 1),
+        ('T', 7, 7),
+        ('T', 7, 8),
+        ('T', 7, 12),
+        ('T', 7, 44),
+        ('T', 7, 56),
+        ('T', 7, 36_872),
+        ('T', 8, 15),
+        ('T', 8, 45),
+        ('T', 8, 36_864),
+        ('T', 14, 0),
     ] {
         assert!(lines.contains(&place), "{place:?}");
     }
+}
+
+/// A text is refused before the space is looked at, by every number.
+#[test]
+fn every_refusal_of_a_text_comes_where_there_is_no_space() {
+    let numbers: BTreeSet<u32> = all_cases(1)
+        .iter()
+        .filter(|case| {
+            let Input::ReadValues { ids, numbers, .. } = case.input else {
+                return false;
+            };
+            (ids, numbers) == (0, 0)
+        })
+        .map(|case| answer(&case.input).number())
+        .collect();
+    assert_eq!(
+        numbers.into_iter().collect::<Vec<_>>(),
+        [0, 2, 3, 4, 5, 6, 7, 8, 9, 14]
+    );
+}
+
+/// The label of such a case names both lines.
+#[test]
+fn of_two_faults_the_earlier_line_is_told() {
+    let cases = all_cases(1);
+    let line = |label: &str| -> u64 {
+        let at = label.rsplit(' ').next().unwrap();
+        at.parse().unwrap()
+    };
+    let mut pairs = 0;
+    for case in &cases {
+        let Some((first, later)) = case.label.split_once(", then ") else {
+            continue;
+        };
+        assert!(line(first) < line(later), "{}", case.label);
+        let refusal = refusal_of(&answer(&case.input)).unwrap();
+        assert_eq!(refusal.line, line(first), "{}", case.label);
+        pairs += 1;
+    }
+    assert_eq!(pairs, 22 * 21 / 2);
+}
+
+/// The header, ids and numbers of a text and edits, as they are handed over.
+fn values(input: &Input) -> Option<([i64; 8], Vec<u8>, Vec<i64>)> {
+    let Input::WriteValues {
+        text,
+        edits,
+        ids,
+        numbers,
+        ..
+    } = input
+    else {
+        return None;
+    };
+    let mut header = [0; 8];
+    let mut all_ids = vec![0; ROWS * ID_ROW];
+    let mut all_numbers = vec![0; ROWS * NUMBER_ROW];
+    let _ = read_held(&text.bytes(), &mut header, &mut all_ids, &mut all_numbers);
+    for edit in edits {
+        match *edit {
+            Edit::Header(place, value) => header[place] = value,
+            Edit::Ids(place, byte) => all_ids[place] = byte,
+            Edit::Numbers(place, value) => all_numbers[place] = value,
+        }
+    }
+    all_ids.truncate(*ids);
+    all_numbers.truncate(*numbers);
+    Some((header, all_ids, all_numbers))
+}
+
+#[test]
+fn what_is_written_is_accepted_and_written_again() {
+    let mut accepted = 0;
+    for case in all_cases(1) {
+        let Some((header, ids, numbers)) = values(&case.input) else {
+            continue;
+        };
+        let Ok(text) = held_text(&header, &ids, &numbers) else {
+            continue;
+        };
+        let rows = (ids.len() / ID_ROW).min(numbers.len() / NUMBER_ROW);
+        let (mut same, mut same_ids) = ([7; 8], vec![7; rows * ID_ROW]);
+        let mut same_numbers = vec![7; rows * NUMBER_ROW];
+        let read = read_held(&text, &mut same, &mut same_ids, &mut same_numbers);
+        assert_eq!(read, Ok(()), "{}", case.label);
+        assert_eq!(same[..7], header[..7], "{}", case.label);
+        assert_eq!(same[7], rows as i64, "{}", case.label);
+        assert_eq!(
+            held_text(&same, &same_ids, &same_numbers),
+            Ok(text),
+            "{}",
+            case.label
+        );
+        accepted += 1;
+    }
+    assert!(accepted > 300);
+}
+
+#[test]
+fn known_values() {
+    let cases = all_cases(1);
+    let line = |label: &str| {
+        let case = cases.iter().find(|case| case.label == label);
+        answer(&case.unwrap_or_else(|| panic!("{label}")).input).line()
+    };
+    // The text of `no resource` has 67 bytes.
+    let text = "month=7\nhour=14\nlambda=0\nfactor=10000\nprc=1\neea1=0\nshort=0\ncount=0\n";
+    let longer = [text.as_bytes(), &buffer(68)[67..]].concat();
+    assert_eq!(
+        line("no resource, buffer of 68"),
+        format!("accepted 67 accepted 67 {}", checksum(&longer))
+    );
+    assert_eq!(
+        line("no resource, buffer of 66"),
+        format!("accepted 67 refused 14 line 0 7 {}", checksum(&buffer(66)))
+    );
+    assert_eq!(
+        line("no resource, buffer of 67"),
+        format!("accepted 67 accepted 67 {}", checksum(text.as_bytes()))
+    );
+    // A refusal leaves the length, what was written and the buffer.
+    assert!(
+        line("written, cold30 at line 17").starts_with("refused 7 line 17 7 refused 7 line 17 7 ")
+    );
+    assert_eq!(
+        line("written, 14 comes last: the id again at line 18"),
+        "refused 8 line 18 7 refused 8 line 18 7 0"
+    );
+    // Whatever count is handed in, the same text is written.
+    let plain = line("written, count 0");
+    assert!(plain.starts_with("accepted "));
+    assert_eq!(line("written, count 4097"), plain);
+    assert_eq!(line("written, noise where nothing is looked at"), plain);
+    for (label, length) in [
+        ("the longest text written, buffer of 495718", 495_718),
+        ("the longest text written, buffer of 524288", 495_718),
+    ] {
+        let answer = line(label);
+        assert!(answer.starts_with(&format!("accepted {length} accepted {length} ")));
+    }
+    assert!(line("the longest text written, buffer of 495717")
+        .starts_with("accepted 495718 refused 14 line 0 7 "));
+    assert!(line("the longest text written, one held too many")
+        .starts_with("refused 7 line 8 7 refused 7 line 8 7 "));
+    // Space that is refused stays, and so does what comes after the last row.
+    let space = |ids: usize, numbers: usize| {
+        let numbers: Vec<i64> = (7..).take(numbers).collect();
+        format!(
+            "7 7 7 7 7 7 7 7 {} {}",
+            checksum(&buffer(ids)),
+            checksum_of_numbers(&numbers)
+        )
+    };
+    assert_eq!(
+        line("3 resources into 96 bytes and 26 numbers"),
+        format!("refused 14 line 0 {}", space(96, 26))
+    );
+    assert_eq!(
+        line("values, 14 comes last: bytes \"x\" follow the header"),
+        format!("refused 9 line 9 {}", space(0, 0))
+    );
+    assert_eq!(
+        line("no resource into 31 bytes and 8 numbers"),
+        space(31, 8).replace("7 7 7 7 7 7 7 7", "accepted 7 14 0 10000 1 0 0 0")
+    );
+    // Signs are told apart, and each place counts.
+    let sums: BTreeSet<i64> = [
+        &[][..],
+        &[0],
+        &[1],
+        &[-1],
+        &[2],
+        &[-2],
+        &[0, 0],
+        &[0, 1],
+        &[1, 0],
+        &[i64::MIN],
+        &[i64::MAX],
+    ]
+    .iter()
+    .map(|numbers| checksum_of_numbers(numbers))
+    .collect();
+    assert_eq!(sums.len(), 11);
+    assert_eq!(checksum_of_numbers(&[0]), 258);
+    assert_eq!(checksum_of_numbers(&[-3]), 518);
 }
 
 /// The cells of a page: each row as words.

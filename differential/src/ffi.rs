@@ -1,7 +1,7 @@
 //! The C interface of the library under test. Everything that depends on it
 //! is in this file.
 
-use crate::{Answer, Curves, Library, RecordNumbers, Refusal};
+use crate::{Answer, Curves, Header, Library, RecordNumbers, Refusal};
 
 /// `struct { uint64_t number; uint64_t line; }`; number 0 is an acceptance.
 #[repr(C)]
@@ -26,6 +26,34 @@ extern "C" {
     fn ordc_price(curves: *const i64, text: *const u8, length: usize, answer: *mut i64)
         -> CRefusal;
     fn ordc_write_page(curves: *const i64, buffer: *mut u8, length: usize) -> CRefusal;
+    /// The header is eight numbers; ids have rows of 32 bytes, numbers of nine.
+    fn ordc_read_snapshot(
+        text: *const u8,
+        length: usize,
+        header: *mut i64,
+        ids: *mut u8,
+        ids_length: usize,
+        numbers: *mut i64,
+        numbers_length: usize,
+    ) -> CRefusal;
+    fn ordc_snapshot_length(
+        header: *const i64,
+        ids: *const u8,
+        ids_length: usize,
+        numbers: *const i64,
+        numbers_length: usize,
+        length: *mut usize,
+    ) -> CRefusal;
+    fn ordc_write_snapshot(
+        header: *const i64,
+        ids: *const u8,
+        ids_length: usize,
+        numbers: *const i64,
+        numbers_length: usize,
+        buffer: *mut u8,
+        size: usize,
+        written: *mut usize,
+    ) -> CRefusal;
 }
 
 impl From<CRefusal> for Refusal {
@@ -88,5 +116,69 @@ impl Library for Linked {
 
     fn write_page(&self, curves: &Curves, buffer: &mut [u8]) -> Refusal {
         unsafe { ordc_write_page(curves.as_ptr(), buffer.as_mut_ptr(), buffer.len()) }.into()
+    }
+
+    fn read_snapshot(
+        &self,
+        text: &[u8],
+        header: &mut Header,
+        ids: &mut [u8],
+        numbers: &mut [i64],
+    ) -> Refusal {
+        unsafe {
+            ordc_read_snapshot(
+                text.as_ptr(),
+                text.len(),
+                header.as_mut_ptr(),
+                ids.as_mut_ptr(),
+                ids.len(),
+                numbers.as_mut_ptr(),
+                numbers.len(),
+            )
+        }
+        .into()
+    }
+
+    fn snapshot_length(
+        &self,
+        header: &Header,
+        ids: &[u8],
+        numbers: &[i64],
+        length: &mut usize,
+    ) -> Refusal {
+        unsafe {
+            ordc_snapshot_length(
+                header.as_ptr(),
+                ids.as_ptr(),
+                ids.len(),
+                numbers.as_ptr(),
+                numbers.len(),
+                length,
+            )
+        }
+        .into()
+    }
+
+    fn write_snapshot(
+        &self,
+        header: &Header,
+        ids: &[u8],
+        numbers: &[i64],
+        buffer: &mut [u8],
+        written: &mut usize,
+    ) -> Refusal {
+        unsafe {
+            ordc_write_snapshot(
+                header.as_ptr(),
+                ids.as_ptr(),
+                ids.len(),
+                numbers.as_ptr(),
+                numbers.len(),
+                buffer.as_mut_ptr(),
+                buffer.len(),
+                written,
+            )
+        }
+        .into()
     }
 }

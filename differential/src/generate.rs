@@ -2,6 +2,7 @@
 //! damaged ones.
 
 use crate::damage::damage;
+use crate::held::{damage_held, disturb, Held, ID_ROW, NUMBER_ROW};
 use crate::texts::{hour_in_group, snapshot, MOST_POWER};
 use crate::{Curves, Input, Random, RecordNumbers};
 use reference::{read_snapshot, reserves, sums, PAGE_LENGTH, WRITTEN_LIMIT};
@@ -11,12 +12,15 @@ const MOST_HOURS: i64 = 1000;
 
 /// A random input.
 pub fn input(random: &mut Random) -> Input {
-    match random.bits() % 22 {
+    match random.bits() % 30 {
         0..=5 => book(random),
         6..=8 => settle(random),
         9..=11 => read(random),
         12 | 13 => write(random),
         14 | 15 => write_page(random),
+        22..=24 => read_values(random),
+        25 | 26 => values_length(random),
+        27..=29 => write_values(random),
         _ => price(random),
     }
 }
@@ -273,16 +277,29 @@ fn write_page(random: &mut Random) -> Input {
     }
 }
 
-fn price(random: &mut Random) -> Input {
+/// The number of a snapshot's resources: mostly a few, at times as many as there
+/// can be.
+pub fn size(random: &mut Random) -> usize {
     let count = match random.bits() % 4096 {
         0 => 4096,
         1..=16 => random.within(0, 500),
         _ => random.within(0, 8),
     };
-    let snapshot = snapshot(random, count as usize);
-    let mut text = snapshot.text();
+    count as usize
+}
+
+/// Curves for a text that is accepted, mostly such that its prices are neither
+/// least nor greatest.
+pub fn curves_near(random: &mut Random, text: &[u8]) -> Curves {
     let mut curves = curves(random);
-    near_the_floor(random, &mut curves, &text);
+    near_the_floor(random, &mut curves, text);
+    curves
+}
+
+fn price(random: &mut Random) -> Input {
+    let count = size(random);
+    let mut text = snapshot(random, count).text();
+    let mut curves = curves_near(random, &text);
     if random.one_in(2) {
         damage(random, &mut text);
     }
@@ -317,4 +334,73 @@ fn near_the_floor(random: &mut Random, curves: &mut Curves, text: &[u8]) {
         pair[0] = random.within(-sigma, sigma);
         pair[1] = sigma;
     }
+}
+
+/// A length near the one that would do.
+fn near(random: &mut Random, fits: usize) -> usize {
+    match random.bits() % 8 {
+        0 => random.place(fits + 1),
+        1 => 0,
+        2..=4 => fits,
+        _ => (fits as i64 + random.within(-2, 3)).max(0) as usize,
+    }
+}
+
+fn read_values(random: &mut Random) -> Input {
+    let count = size(random);
+    let mut text = snapshot(random, count).text();
+    if random.one_in(2) {
+        damage(random, &mut text);
+    }
+    if random.one_in(256) {
+        lengthen(random, &mut text, 1_048_576);
+    }
+    // Mostly rows enough, and something left over.
+    let mut length = |row: usize| {
+        let rows = match random.bits() % 8 {
+            0 => count.saturating_sub(1),
+            1 => random.place(count + 1),
+            2 => count + 1 + random.place(3),
+            _ => count,
+        };
+        let left_over = if random.one_in(2) {
+            0
+        } else {
+            random.place(row)
+        };
+        rows * row + left_over
+    };
+    Input::ReadSnapshot {
+        text,
+        ids: length(ID_ROW),
+        numbers: length(NUMBER_ROW),
+    }
+}
+
+/// Values, some of them damaged, and the length of the text of those that are not.
+fn held(random: &mut Random) -> (Held, usize) {
+    let count = if random.one_in(4096) {
+        4097
+    } else {
+        size(random)
+    };
+    let snapshot = snapshot(random, count);
+    let mut held = Held::of(&snapshot);
+    disturb(random, &mut held);
+    if random.one_in(2) {
+        damage_held(random, &mut held);
+    }
+    let fits = reference::held_length(&held.header, &held.ids, &held.numbers);
+    (held, fits.unwrap_or_else(|_| snapshot.text().len()))
+}
+
+fn values_length(random: &mut Random) -> Input {
+    let (held, _) = held(random);
+    Input::SnapshotLength { held }
+}
+
+fn write_values(random: &mut Random) -> Input {
+    let (held, fits) = held(random);
+    let length = near(random, fits);
+    Input::WriteSnapshot { held, length }
 }

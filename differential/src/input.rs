@@ -1,6 +1,7 @@
 //! One call of one operation, its outcome, and the counts of outcomes.
 
-use crate::{Curves, Library, RecordNumbers, Refusal};
+use crate::held::{show_held, Held};
+use crate::{Curves, Header, Library, RecordNumbers, Refusal};
 use std::fmt::Write;
 
 #[derive(Clone, Debug, PartialEq, Eq)]
@@ -29,6 +30,19 @@ pub enum Input {
         curves: Curves,
         length: usize,
     },
+    /// Into space of so many bytes and so many numbers.
+    ReadSnapshot {
+        text: Vec<u8>,
+        ids: usize,
+        numbers: usize,
+    },
+    SnapshotLength {
+        held: Held,
+    },
+    WriteSnapshot {
+        held: Held,
+        length: usize,
+    },
 }
 
 impl Input {
@@ -41,11 +55,14 @@ impl Input {
             Input::Write { .. } => 3,
             Input::Price { .. } => 4,
             Input::WritePage { .. } => 5,
+            Input::ReadSnapshot { .. } => 6,
+            Input::SnapshotLength { .. } => 7,
+            Input::WriteSnapshot { .. } => 8,
         }
     }
 }
 
-const OPERATIONS: usize = 6;
+const OPERATIONS: usize = 9;
 
 /// The operations, with the refusal numbers that each can give.
 pub const CAN_REFUSE: [(&str, &[u64]); OPERATIONS] = [
@@ -55,22 +72,32 @@ pub const CAN_REFUSE: [(&str, &[u64]); OPERATIONS] = [
     ("write_curves", &[1, 14]),
     ("price", &[1, 2, 3, 4, 5, 6, 7, 8, 9]),
     ("write_page", &[1, 14]),
+    ("read_snapshot", &[2, 3, 4, 5, 6, 7, 8, 9, 14]),
+    ("snapshot_length", &[6, 7, 8]),
+    ("write_snapshot", &[6, 7, 8, 14]),
 ];
 
 /// Everything that a call gives back or may have changed.
 #[derive(Clone, Debug, PartialEq, Eq)]
 pub struct Outcome {
     pub refusal: Refusal,
-    /// The lent array after the call.
+    /// The lent array after the call; of values, the header and the numbers.
     pub numbers: Vec<i64>,
-    /// The lent buffer after the call.
+    /// The lent buffer after the call; of values, the ids.
     pub buffer: Vec<u8>,
 }
 
 /// What stands in a lent array before the call: no answer looks like it.
 fn before<const N: usize>() -> [i64; N] {
-    std::array::from_fn(|place| -7_000_000_000_000 - place as i64)
+    std::array::from_fn(number_before)
 }
+
+fn number_before(place: usize) -> i64 {
+    -7_000_000_000_000 - place as i64
+}
+
+/// What stands in a lent length before the call.
+const LENGTH_BEFORE: usize = 7_000_000_000_000;
 
 /// A buffer before the call: each byte tells its place.
 fn buffer_before(length: usize) -> Vec<u8> {
@@ -128,6 +155,38 @@ pub fn run(library: &dyn Library, input: &Input) -> Outcome {
                 buffer,
             }
         }
+        Input::ReadSnapshot { text, ids, numbers } => {
+            let mut header: Header = before();
+            let mut ids = buffer_before(*ids);
+            let mut numbers: Vec<i64> = (0..*numbers).map(number_before).collect();
+            let refusal = library.read_snapshot(text, &mut header, &mut ids, &mut numbers);
+            Outcome {
+                refusal,
+                numbers: [&header[..], &numbers].concat(),
+                buffer: ids,
+            }
+        }
+        Input::SnapshotLength { held } => {
+            let mut length = LENGTH_BEFORE;
+            let refusal =
+                library.snapshot_length(&held.header, &held.ids, &held.numbers, &mut length);
+            outcome(refusal, &[length as i64])
+        }
+        Input::WriteSnapshot { held, length } => {
+            let mut buffer = buffer_before(*length);
+            let mut written = LENGTH_BEFORE;
+            let Held {
+                header,
+                ids,
+                numbers,
+            } = held;
+            let refusal = library.write_snapshot(header, ids, numbers, &mut buffer, &mut written);
+            Outcome {
+                refusal,
+                numbers: vec![written as i64],
+                buffer,
+            }
+        }
     }
 }
 
@@ -175,7 +234,7 @@ impl Tally {
     pub fn show(&self) -> String {
         let mut out = String::new();
         for (operation, (name, numbers)) in CAN_REFUSE.iter().enumerate() {
-            write!(out, "{name:13} accepted {:>6}", self.times(operation, 0)).unwrap();
+            write!(out, "{name:15} accepted {:>6}", self.times(operation, 0)).unwrap();
             for &number in *numbers {
                 write!(out, "  {number}: {}", self.times(operation, number)).unwrap();
             }
@@ -248,6 +307,15 @@ pub fn show(input: &Input) -> String {
         Input::Price { curves, text } => {
             show_curves(&mut out, curves);
             out += &show_text(text);
+        }
+        Input::ReadSnapshot { text, ids, numbers } => {
+            out += &show_text(text);
+            writeln!(out, "  space of {ids} bytes and {numbers} numbers").unwrap();
+        }
+        Input::SnapshotLength { held } => show_held(&mut out, held),
+        Input::WriteSnapshot { held, length } => {
+            show_held(&mut out, held);
+            writeln!(out, "  buffer of {length} bytes").unwrap();
         }
     }
     out

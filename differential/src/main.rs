@@ -1,18 +1,19 @@
-//! `differential [--seed N] [--inputs N] [--from N] [--pairs N] [--pages N] [--long]`
+//! `differential [--seed N] [--inputs N] [--from N] [--pairs N] [--pages N] [--trips N] [--long]`
 
 use differential::order::{self, Counts, SNAPSHOTS};
-use differential::{input, page, run, show, shrink, Library, Outcome, Plain, Random, Tally};
+use differential::{input, page, run, show, shrink, trip, Library, Outcome, Plain, Random, Tally};
 use std::process::ExitCode;
 use std::time::{Instant, SystemTime, UNIX_EPOCH};
 
-const USAGE: &str =
-    "usage: differential [--seed N] [--inputs N] [--from N] [--pairs N] [--pages N] [--long]
+const USAGE: &str = "usage: differential [--seed N] [--inputs N] [--from N] [--pairs N] [--pages N]
+                    [--trips N] [--long]
   --seed N    the seed; without it one is taken from the clock
   --inputs N  so many inputs (200000)
   --from N    the place of the first input (0)
   --pairs N   so many pairs of histories and snapshots (20000)
   --pages N   so many pages (5000)
-  --long      twenty times as many of all three";
+  --trips N   so many round trips (5000)
+  --long      twenty times as many of all four";
 
 struct Options {
     seed: u64,
@@ -20,6 +21,7 @@ struct Options {
     from: u64,
     pairs: u64,
     pages: u64,
+    trips: u64,
 }
 
 fn main() -> ExitCode {
@@ -39,7 +41,8 @@ fn main() -> ExitCode {
     let agree = inputs(&library, &options);
     let ordered = pairs(&library, &options);
     let readable = pages(&library, &options);
-    if agree && ordered && readable {
+    let same = trips(&library, &options);
+    if agree && ordered && readable && same {
         println!("passed");
         ExitCode::SUCCESS
     } else {
@@ -56,6 +59,7 @@ fn options() -> Option<Options> {
         from: 0,
         pairs: 20_000,
         pages: 5_000,
+        trips: 5_000,
     };
     let mut arguments = std::env::args().skip(1);
     let mut times = 1;
@@ -70,6 +74,7 @@ fn options() -> Option<Options> {
             "--from" => &mut options.from,
             "--pairs" => &mut options.pairs,
             "--pages" => &mut options.pages,
+            "--trips" => &mut options.trips,
             _ => return None,
         };
         *value = arguments.next()?.parse().ok()?;
@@ -77,6 +82,7 @@ fn options() -> Option<Options> {
     options.inputs *= times;
     options.pairs *= times;
     options.pages *= times;
+    options.trips *= times;
     Some(options)
 }
 
@@ -205,4 +211,37 @@ fn pages(library: &dyn Library, options: &Options) -> bool {
         println!("no page was telling");
     }
     telling || options.pages == 0
+}
+
+/// Runs the round trips; true if nothing is broken and some were telling.
+fn trips(library: &dyn Library, options: &Options) -> bool {
+    let start = Instant::now();
+    let mut counts = trip::Counts::default();
+    // Its own numbers, whatever the number of all others.
+    let seed = Random::at(options.seed, u64::MAX - 2).bits();
+    for place in 0..options.trips {
+        match trip::check(library, &mut Random::at(seed, place)) {
+            Ok(more) => counts.add(&more),
+            Err(broken) => {
+                print!("round trip {place}: {broken}");
+                return false;
+            }
+        }
+    }
+    let seconds = start.elapsed().as_secs_f64();
+    let trip::Counts {
+        trips,
+        resources,
+        disturbed,
+        priced,
+    } = counts;
+    println!(
+        "{trips} round trips in {seconds:.1} s, of {resources} resources; {disturbed} from values \
+         with something where nothing is looked at, {priced} with a price inside its bounds"
+    );
+    let telling = resources > 0 && disturbed > 0 && priced > 0;
+    if options.trips > 0 && !telling {
+        println!("no round trip was telling");
+    }
+    telling || options.trips == 0
 }

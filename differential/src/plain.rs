@@ -1,6 +1,6 @@
 //! The reference behind the trait.
 
-use crate::{Answer, Curves, Library, RecordNumbers, Refusal};
+use crate::{Answer, Curves, Header, Library, RecordNumbers, Refusal};
 use reference::{CurveSet, Group, Record};
 
 /// The reference.
@@ -105,5 +105,38 @@ impl Library for Plain {
 
     fn write_page(&self, curves: &Curves, buffer: &mut [u8]) -> Refusal {
         take(reference::write_page(&curve_set(curves), buffer), |_| ())
+    }
+
+    fn read_snapshot(
+        &self,
+        text: &[u8],
+        header: &mut Header,
+        ids: &mut [u8],
+        numbers: &mut [i64],
+    ) -> Refusal {
+        take(reference::read_held(text, header, ids, numbers), |()| ())
+    }
+
+    fn snapshot_length(
+        &self,
+        header: &Header,
+        ids: &[u8],
+        numbers: &[i64],
+        length: &mut usize,
+    ) -> Refusal {
+        let told = reference::held_length(header, ids, numbers);
+        take(told, |told| *length = told)
+    }
+
+    fn write_snapshot(
+        &self,
+        header: &Header,
+        ids: &[u8],
+        numbers: &[i64],
+        buffer: &mut [u8],
+        written: &mut usize,
+    ) -> Refusal {
+        let length = reference::write_held(header, ids, numbers, buffer);
+        take(length, |length| *written = length)
     }
 }

@@ -3,6 +3,7 @@
 //! The functions below hand smaller inputs, one at a time and the largest
 //! steps first, to `found`, and end with true when it takes one.
 
+use crate::held::{id_length, Held, ID_ROW, NUMBER_ROW};
 use crate::{Curves, Input, RecordNumbers};
 use std::time::{Duration, Instant};
 
@@ -83,7 +84,97 @@ fn smaller_inputs(input: &Input, found: &mut dyn FnMut(Input) -> bool) -> bool {
                 found(Input::Price { curves, text })
             })
         }
+        Input::ReadSnapshot { text, ids, numbers } => {
+            smaller_texts(text, &mut |text| {
+                let (ids, numbers) = (*ids, *numbers);
+                found(Input::ReadSnapshot { text, ids, numbers })
+            }) || smaller_numbers(&[*ids as i64, *numbers as i64], &mut |[ids, numbers]| {
+                found(Input::ReadSnapshot {
+                    text: text.clone(),
+                    ids: ids as usize,
+                    numbers: numbers as usize,
+                })
+            })
+        }
+        Input::SnapshotLength { held } => {
+            smaller_values(held, &mut |held| found(Input::SnapshotLength { held }))
+        }
+        Input::WriteSnapshot { held, length } => {
+            let fits = text_length(held);
+            smaller_values(held, &mut |held| {
+                // The buffer as it is, or as much shorter as the text.
+                let shorter = fits.zip(text_length(&held));
+                let shorter = shorter.and_then(|(fits, now)| (length + now).checked_sub(fits));
+                let lengths = [Some(*length), shorter.filter(|shorter| shorter < length)];
+                lengths.into_iter().flatten().any(|length| {
+                    let held = held.clone();
+                    found(Input::WriteSnapshot { held, length })
+                })
+            }) || smaller_numbers(&[*length as i64], &mut |[length]| {
+                found(Input::WriteSnapshot {
+                    held: held.clone(),
+                    length: length as usize,
+                })
+            })
+        }
     }
+}
+
+/// The length of the text of values that are accepted.
+fn text_length(held: &Held) -> Option<usize> {
+    reference::held_length(&held.header, &held.ids, &held.numbers).ok()
+}
+
+/// Fewer rows, nothing left over, shorter ids with nothing after them, and
+/// smaller numbers.
+fn smaller_values(held: &Held, found: &mut dyn FnMut(Held) -> bool) -> bool {
+    let rows = held.rows();
+    let (ids, numbers) = (rows * ID_ROW, rows * NUMBER_ROW);
+    let changed = |change: &dyn Fn(&mut Held)| {
+        let mut changed = held.clone();
+        change(&mut changed);
+        changed
+    };
+    let some_rows = parts_of(rows).any(|(first, last)| {
+        found(changed(&|held| {
+            held.ids.drain(first * ID_ROW..last * ID_ROW);
+            held.numbers.drain(first * NUMBER_ROW..last * NUMBER_ROW);
+        }))
+    });
+    let left_over = |found: &mut dyn FnMut(Held) -> bool| {
+        held.ids.len() > ids && found(changed(&|held| held.ids.truncate(ids)))
+            || held.numbers.len() > numbers
+                && found(changed(&|held| held.numbers.truncate(numbers)))
+    };
+    some_rows
+        || left_over(found)
+        || (0..rows).any(|row| smaller_ids(held, row, found))
+        || smaller_numbers(&held.header, &mut |header| {
+            found(changed(&|held| held.header = header))
+        })
+        || (0..held.numbers.len()).any(|place| {
+            smaller(held.numbers[place])
+                .any(|number| found(changed(&|held| held.numbers[place] = number)))
+        })
+}
+
+/// The id in a row made shorter, wherever it stands, and the bytes after it made
+/// 0.
+fn smaller_ids(held: &Held, row: usize, found: &mut dyn FnMut(Held) -> bool) -> bool {
+    let bytes = |row: usize| &held.ids[row * ID_ROW..][..ID_ROW];
+    let length = id_length(bytes(row));
+    let same = |other: usize| bytes(other)[..id_length(bytes(other))] == bytes(row)[..length];
+    let same: Vec<usize> = (0..held.rows()).filter(|&other| same(other)).collect();
+    [0, 1, length / 2, length.saturating_sub(1), length]
+        .into_iter()
+        .filter(|&end| bytes(row)[end..].iter().any(|&byte| byte != 0))
+        .any(|end| {
+            let mut held = held.clone();
+            for &row in &same {
+                held.id_row(row)[end..].fill(0);
+            }
+            found(held)
+        })
 }
 
 /// Each number of the curves made smaller, then the buffer.

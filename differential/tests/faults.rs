@@ -2,8 +2,8 @@
 
 use differential::order::{self, Counts};
 use differential::{
-    input, page, run, show, shrink, Answer, Curves, Input, Library, Plain, Random, RecordNumbers,
-    Refusal, Tally,
+    input, page, run, show, shrink, Answer, Curves, Header, Input, Library, Plain, Random,
+    RecordNumbers, Refusal, Tally,
 };
 
 #[derive(Clone, Copy, Debug, PartialEq, Eq)]
@@ -178,6 +178,39 @@ impl Library for Faulty {
             _ => {}
         }
         refusal
+    }
+
+    // Faults of the operations on values stand in `held_faults.rs`.
+
+    fn read_snapshot(
+        &self,
+        text: &[u8],
+        header: &mut Header,
+        ids: &mut [u8],
+        numbers: &mut [i64],
+    ) -> Refusal {
+        Plain.read_snapshot(text, header, ids, numbers)
+    }
+
+    fn snapshot_length(
+        &self,
+        header: &Header,
+        ids: &[u8],
+        numbers: &[i64],
+        length: &mut usize,
+    ) -> Refusal {
+        Plain.snapshot_length(header, ids, numbers, length)
+    }
+
+    fn write_snapshot(
+        &self,
+        header: &Header,
+        ids: &[u8],
+        numbers: &[i64],
+        buffer: &mut [u8],
+        written: &mut usize,
+    ) -> Refusal {
+        Plain.write_snapshot(header, ids, numbers, buffer, written)
     }
 }
 

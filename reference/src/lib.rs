@@ -2,11 +2,14 @@
 //!
 //! History hours are booked into a [`Record`], a record settles into a
 //! [`CurveSet`] of 24 pairs (mu, sigma), and a curve set prices a snapshot of
-//! the grid or is printed as a page. Power is in whole kW, money in whole cents
-//! per MWh and shares of one in billionths. All arithmetic is exact; nothing uses
-//! floating point.
+//! the grid or is printed as a page. A snapshot that a host holds as rows of
+//! numbers is written as its text and read back into rows. Power is in whole kW,
+//! money in whole cents per MWh and shares of one in billionths. All arithmetic
+//! is exact; nothing uses floating point.
 
 mod curves;
+mod held;
+mod held_check;
 mod history;
 mod natural;
 mod normal;
@@ -14,9 +17,12 @@ mod page;
 mod price;
 mod programs;
 mod snapshot;
+mod snapshot_text;
 mod text;
 
 pub use curves::{read_curves, write_curves, CurveSet, FLOOR_RANGE, VOLL_RANGE, WRITTEN_LIMIT};
+pub use held::{held_length, held_text, read_held, write_held, ID_ROW, NUMBER_ROW};
+pub use held_check::snapshot_of_held;
 pub use history::{book, group_of, settle, Group, Record, GROUPS};
 pub use normal::{n_of, normal_table, BILLION, KNOTS};
 pub use page::{write_page, PAGE_LENGTH};

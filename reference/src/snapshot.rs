@@ -5,13 +5,15 @@ use std::collections::HashSet;
 use std::ops::RangeInclusive;
 
 const SNAPSHOT_LIMIT: usize = 1_048_576;
-const MOST_RESOURCES: i64 = 4096;
+pub(crate) const MOST_RESOURCES: i64 = 4096;
 
-const LAMBDA_RANGE: RangeInclusive<i64> = -2_000_000..=2_000_000;
-const FACTOR_RANGE: RangeInclusive<i64> = 0..=10_000;
-const SYSTEM_POWER_RANGE: RangeInclusive<i64> = 0..=200_000_000;
-const POWER_RANGE: RangeInclusive<i64> = 0..=2_000_000;
-const GENERATOR_NET_RANGE: RangeInclusive<i64> = -2_000_000..=2_000_000;
+pub(crate) const MONTH_RANGE: RangeInclusive<i64> = 1..=12;
+pub(crate) const HOUR_RANGE: RangeInclusive<i64> = 0..=23;
+pub(crate) const LAMBDA_RANGE: RangeInclusive<i64> = -2_000_000..=2_000_000;
+pub(crate) const FACTOR_RANGE: RangeInclusive<i64> = 0..=10_000;
+pub(crate) const SYSTEM_POWER_RANGE: RangeInclusive<i64> = 0..=200_000_000;
+pub(crate) const POWER_RANGE: RangeInclusive<i64> = 0..=2_000_000;
+pub(crate) const GENERATOR_NET_RANGE: RangeInclusive<i64> = -2_000_000..=2_000_000;
 
 /// The header's values and the resources in their order.
 #[derive(Clone, Debug, PartialEq, Eq)]
@@ -125,8 +127,8 @@ pub struct Nclr {
 pub fn read_snapshot(text: &[u8]) -> Result<Snapshot<'_>, Refusal> {
     let mut lines = Lines::within(text, SNAPSHOT_LIMIT)?;
     let mut snapshot = Snapshot {
-        month: lines.number("month", 1..=12)?,
-        hour: lines.number("hour", 0..=23)?,
+        month: lines.number("month", MONTH_RANGE)?,
+        hour: lines.number("hour", HOUR_RANGE)?,
         lambda: lines.number("lambda", LAMBDA_RANGE)?,
         factor: lines.number("factor", FACTOR_RANGE)?,
         prc: lines.number("prc", SYSTEM_POWER_RANGE)?,
@@ -149,8 +151,9 @@ pub fn read_snapshot(text: &[u8]) -> Result<Snapshot<'_>, Refusal> {
     Ok(snapshot)
 }
 
-/// An id has 1..16 of the bytes A-Z, 0-9 and _.
-fn parse_id(value: &[u8]) -> Option<&str> {
+/// An id has 1..16 of the bytes A-Z, 0-9 and _. That it is not empty is for the
+/// caller to see.
+pub(crate) fn parse_id(value: &[u8]) -> Option<&str> {
     let is_id_byte = |byte: &u8| matches!(byte, b'A'..=b'Z' | b'0'..=b'9' | b'_');
     if value.len() > 16 || !value.iter().all(is_id_byte) {
         return None;
@@ -158,7 +161,8 @@ fn parse_id(value: &[u8]) -> Option<&str> {
     std::str::from_utf8(value).ok()
 }
 
-enum Kind {
+#[derive(Clone, Copy, PartialEq, Eq)]
+pub(crate) enum Kind {
     Generator(GeneratorKind),
     Clr,
     Nclr,

@@ -7,6 +7,9 @@ Power is in whole kW, money in whole cents per MWh, shares of one in billionths.
     >>> prices = ordc.price(curves, open("snapshot.txt", "rb").read())
     >>> prices.online, prices.offline
     >>> page = ordc.write_page(curves).decode("ascii")
+    >>> snapshot = ordc.Snapshot.from_text(open("snapshot.txt", "rb").read())
+    >>> snapshot.resources[0].status = ordc.Status.OUT
+    >>> ordc.price(curves, snapshot.to_text())
 
 What an operation refuses raises :class:`Refused`, which gives the number, the line and a sentence.
 The shared library is taken from the environment variable ORDC_LIBRARY where it is set, then from
@@ -16,6 +19,7 @@ target/staticlib of the repository that this package stands in, then from where 
 from ._library import GROUPS
 from ._refusals import EXPLANATIONS, Refused
 from ._values import CurveSet, Group, Pair, Prices, Record
+from ._snapshot import ControllableLoad, Generator, GeneratorKind, OtherLoad, Resource, Snapshot, Status
 from ._operations import book, price, read_curves, settle, write_curves, write_page
 
 __all__ = [
@@ -27,6 +31,13 @@ __all__ = [
     "CurveSet",
     "Pair",
     "Prices",
+    "Snapshot",
+    "Resource",
+    "Generator",
+    "GeneratorKind",
+    "Status",
+    "ControllableLoad",
+    "OtherLoad",
     "book",
     "settle",
     "read_curves",

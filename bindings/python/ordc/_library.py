@@ -11,10 +11,15 @@ CURVES = 50
 ANSWER = 6
 CURVE_TEXT = 700
 PAGE = 1728
+HEADER = 8
+ID_ROW = 32
+NUMBER_ROW = 9
+RESOURCES = 4096
 
 RecordArray = ctypes.c_int64 * RECORD
 CurvesArray = ctypes.c_int64 * CURVES
 AnswerArray = ctypes.c_int64 * ANSWER
+HeaderArray = ctypes.c_int64 * HEADER
 
 
 class Refusal(ctypes.Structure):
@@ -40,6 +45,8 @@ def _load() -> ctypes.CDLL:
     library = ctypes.CDLL(_path())
     text, size = ctypes.c_char_p, ctypes.c_size_t
     pointer = ctypes.POINTER
+    # A snapshot held as values: header, rows of ids and rows of numbers.
+    held = [pointer(HeaderArray), ctypes.c_char_p, size, pointer(ctypes.c_int64), size]
     signatures = {
         "ordc_book": [pointer(RecordArray), text, size],
         "ordc_settle": [pointer(RecordArray), ctypes.c_int64, ctypes.c_int64, pointer(CurvesArray)],
@@ -47,6 +54,9 @@ def _load() -> ctypes.CDLL:
         "ordc_write_curves": [pointer(CurvesArray), ctypes.c_char_p, size, pointer(ctypes.c_size_t)],
         "ordc_write_page": [pointer(CurvesArray), ctypes.c_char_p, size],
         "ordc_price": [pointer(CurvesArray), text, size, pointer(AnswerArray)],
+        "ordc_read_snapshot": [text, size] + held,
+        "ordc_snapshot_length": held + [pointer(ctypes.c_size_t)],
+        "ordc_write_snapshot": held + [ctypes.c_char_p, size, pointer(ctypes.c_size_t)],
     }
     for name, arguments in signatures.items():
         function = getattr(library, name)

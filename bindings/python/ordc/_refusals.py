@@ -14,7 +14,7 @@ EXPLANATIONS = {
     11: "The hour's reserve error lies beyond 20000000 kW in size.",
     12: "A group has fewer than 2 hours.",
     13: "A group's errors have spread 0.",
-    14: "The buffer is shorter than the curve text or the page.",
+    14: "The buffer is shorter than the text or the page, or the rows are fewer than the resources.",
 }
 
 _OF_A_GROUP = (12, 13)
@@ -25,7 +25,8 @@ class Refused(Exception):
 
     Attributes:
         number: the refusal's number, 1 to 14.
-        line: the line it concerns, the first line of the text being 1; for 12 and 13 the group, 0 to 23; else 0.
+        line: the line it concerns, the first line of the text, or of the text that would be written, being 1; for 12
+            and 13 the group, 0 to 23; else 0.
         explanation: a sentence in plain words.
     """
 

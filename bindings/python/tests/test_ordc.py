@@ -187,7 +187,7 @@ class Operations(unittest.TestCase):
         # 1 comes before 14
         for size in (0, 1, 1727, 1728, 1729, 2000):
             self.assertEqual(written(with_pair(curves, 23, 0, 0), size), (1, 0, b"x" * 2000))
-        explained = "refused by 14: The buffer is shorter than the curve text or the page."
+        explained = "refused by 14: The buffer is shorter than the text or the page, or the rows are fewer than the resources."
         self.assertEqual(str(ordc.Refused(14, 0)), explained)
 
     def test_every_refusal(self):

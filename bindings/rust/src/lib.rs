@@ -1,9 +1,10 @@
 //! Reserve curves and the two operating reserve prices, over the static library `libordc.a`.
 //!
 //! Hours are booked on a [`Record`], a record settles into a [`CurveSet`], and a curve set prices a
-//! snapshot's text into [`Prices`] or is written as a page for people to read. Power is in whole kW,
-//! money in whole cents per MWh, shares of one in billionths. What an operation refuses is a
-//! [`Refusal`], and then nothing has changed.
+//! snapshot's text into [`Prices`] or is written as a page for people to read. A text is read into a
+//! [`Snapshot`], whose values can be changed, and written again. Power is in whole kW, money in whole
+//! cents per MWh, shares of one in billionths. What an operation refuses is a [`Refusal`], and then
+//! nothing has changed.
 //!
 //! ```
 //! let curves = ordc::CurveSet {
@@ -21,14 +22,32 @@
 
 mod raw;
 mod refusal;
+mod rows;
+mod snapshot;
 
+pub use raw::{read_snapshot, snapshot_length, write_snapshot};
 pub use refusal::Refusal;
+pub use snapshot::{
+    ControllableLoad, Generator, GeneratorKind, OtherLoad, Resource, Snapshot, Status, Unit,
+};
 
 /// Four seasons of six four-hour blocks.
 pub const GROUPS: usize = 24;
 
 /// Every page has this many bytes: a row of 72 for each group.
 pub const PAGE: usize = raw::PAGE;
+
+/// A snapshot's header has this many numbers, in the order of its lines.
+pub const HEADER: usize = raw::HEADER;
+
+/// Each resource has a row of this many bytes, which holds its id.
+pub const ID_ROW: usize = raw::ID_ROW;
+
+/// Each resource has a row of this many numbers: kind, status, and the numbers of its kind.
+pub const NUMBER_ROW: usize = raw::NUMBER_ROW;
+
+/// No snapshot has more resources than this.
+pub const RESOURCES: usize = raw::RESOURCES;
 
 /// No operation needs more bytes of stack than this, whatever it is handed.
 pub const STACK: usize = raw::STACK;

@@ -1,4 +1,4 @@
-//! The functions of include/ordc.h, each behind a safe one over arrays of the size it asks for.
+//! The functions of include/ordc.h, each behind a safe one over slices and over arrays of the size it asks for.
 
 use crate::refusal::Refusal;
 
@@ -8,6 +8,10 @@ pub const ANSWER: usize = 6;
 pub const CURVE_TEXT: usize = 700;
 pub const PAGE: usize = 1728;
 pub const STACK: usize = 262_144;
+pub const HEADER: usize = 8;
+pub const ID_ROW: usize = 32;
+pub const NUMBER_ROW: usize = 9;
+pub const RESOURCES: usize = 4096;
 
 #[repr(C)]
 struct RawRefusal {
@@ -31,6 +35,33 @@ extern "C" {
         text: *const u8,
         length: usize,
         answer: *mut i64,
+    ) -> RawRefusal;
+    fn ordc_read_snapshot(
+        text: *const u8,
+        length: usize,
+        header: *mut i64,
+        ids: *mut u8,
+        ids_length: usize,
+        numbers: *mut i64,
+        numbers_length: usize,
+    ) -> RawRefusal;
+    fn ordc_snapshot_length(
+        header: *const i64,
+        ids: *const u8,
+        ids_length: usize,
+        numbers: *const i64,
+        numbers_length: usize,
+        length: *mut usize,
+    ) -> RawRefusal;
+    fn ordc_write_snapshot(
+        header: *const i64,
+        ids: *const u8,
+        ids_length: usize,
+        numbers: *const i64,
+        numbers_length: usize,
+        buffer: *mut u8,
+        size: usize,
+        written: *mut usize,
     ) -> RawRefusal;
 }
 
@@ -91,4 +122,79 @@ pub fn price(curves: &[i64; CURVES], text: &[u8]) -> Result<[i64; ANSWER], Refus
         )
     })?;
     Ok(answer)
+}
+
+/// Reads a snapshot's text into a header and rows that are lent: for each resource a row of [`ID_ROW`](crate::ID_ROW)
+/// bytes and one of [`NUMBER_ROW`](crate::NUMBER_ROW) numbers. What stands after the rows of the last resource stays.
+/// `include/ordc.h` documents the layout.
+///
+/// # Errors
+/// 2, 3 to 8, 9, 14; header and rows are then as they were.
+pub fn read_snapshot(
+    text: &[u8],
+    header: &mut [i64; HEADER],
+    ids: &mut [u8],
+    numbers: &mut [i64],
+) -> Result<(), Refusal> {
+    check(unsafe {
+        ordc_read_snapshot(
+            text.as_ptr(),
+            text.len(),
+            header.as_mut_ptr(),
+            ids.as_mut_ptr(),
+            ids.len(),
+            numbers.as_mut_ptr(),
+            numbers.len(),
+        )
+    })
+}
+
+/// The length of the text that [`write_snapshot`] writes.
+///
+/// # Errors
+/// 6, 7, 8.
+pub fn snapshot_length(
+    header: &[i64; HEADER],
+    ids: &[u8],
+    numbers: &[i64],
+) -> Result<usize, Refusal> {
+    let mut length = 0;
+    check(unsafe {
+        ordc_snapshot_length(
+            header.as_ptr(),
+            ids.as_ptr(),
+            ids.len(),
+            numbers.as_ptr(),
+            numbers.len(),
+            &mut length,
+        )
+    })?;
+    Ok(length)
+}
+
+/// Writes the text of the snapshot that header and rows hold to the front of a buffer and gives its length; bytes after
+/// it stay. The resources are as many as there are whole rows of both sorts, whatever the header's eighth number is.
+///
+/// # Errors
+/// 6, 7, 8, 14; the buffer is then as it was.
+pub fn write_snapshot(
+    header: &[i64; HEADER],
+    ids: &[u8],
+    numbers: &[i64],
+    buffer: &mut [u8],
+) -> Result<usize, Refusal> {
+    let mut written = 0;
+    check(unsafe {
+        ordc_write_snapshot(
+            header.as_ptr(),
+            ids.as_ptr(),
+            ids.len(),
+            numbers.as_ptr(),
+            numbers.len(),
+            buffer.as_mut_ptr(),
+            buffer.len(),
+            &mut written,
+        )
+    })?;
+    Ok(written)
 }

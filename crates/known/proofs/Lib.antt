@@ -4,6 +4,7 @@ pub mod Settling
 pub mod Pricing
 pub mod Page
 pub mod Group
+pub mod Held
 pub mod Known
 pub mod BookingExamples
 pub mod PriceExamples

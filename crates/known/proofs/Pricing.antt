@@ -6,19 +6,19 @@ use Rattle.integer.specs.Floor.{floorDiv}
 use Rattle.integer.specs.Order.{minℤ, maxℤ}
 use Rattle.normal.specs.Knot.{knot}
 use Rattle.normal.specs.Normal.{normal, upper, interpolated}
-use Rattle.text_refusal.specs.Bytes.{bytes}
 use Rattle.text_refusal.specs.Refusal.{endedLines}
 use Rattle.text_line.specs.Line.{lineIn, lineLength, begins}
 use Rattle.text_number.specs.Number.{numberOf, allDigits, valueOf}
 use Rattle.text_word.specs.Word.{wordAmong, sameBytes}
 use Rattle.text_id.specs.Id.{isId, allIdBytes}
+use Rattle.text_id_table.specs.Ids.{standsIn}
 use Rattle.text_line.specs.Field.{fieldAt}
 use Rattle.text_schema.specs.Schema.{readFields}
 use Rattle.curve_probability.specs.Probability.{onlineProbability, offlineProbability}
 use Rattle.curve_group.specs.Season.{seasonOf, blockOf, groupOf}
 use Rattle.curve_set.specs.Curves.{curvesInRange, pairsInRange}
 use Rattle.pricing_sums.specs.Sums.{plus}
-use Rattle.pricing_snapshot.specs.Snapshot.{headerFields, standsIn, resourcesAt, dueLines, snapshotIn}
+use Rattle.pricing_snapshot.specs.Snapshot.{headerFields, resourcesAt, dueLines, snapshotIn}
 use Rattle.pricing_adder.specs.Reserve.{twiceLoads, twiceOnline, twiceAll, discounted, onlineReserve, totalReserve}
 use Rattle.pricing_adder.specs.Price.{valueOfReserve, rounded, shortageOnline, shortageOffline, pricesOf}
 use Rattle.pricing_resource_text.specs.Resource.{generatorFields, controllableFields, loadFields, resourceAt}

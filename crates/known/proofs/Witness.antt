@@ -22,6 +22,7 @@ use Rattle.text_line.specs.Field.{fieldAt}
 use Rattle.text_schema.specs.Schema.{writeFields, readFields}
 use Rattle.text_word.specs.Word.{wordAmong, sameBytes}
 use Rattle.text_id.specs.Id.{isId, allIdBytes}
+use Rattle.text_id_table.specs.Ids.{standsIn}
 use Rattle.curve_group.specs.Season.{seasonOf, blockOf, groupOf}
 use Rattle.text_schema.specs.Schema.{repeated}
 use Rattle.curve_hour.specs.Hour.{HourAnswer, hourOf, read, hourFields, runFields, runsOf, hourIn, hourAhead, scedReserve, scedSum, errorOf}
@@ -38,7 +39,7 @@ use Rattle.curve_set.specs.declared.CurveSet.{CurveSet}
 use Rattle.curve_set.specs.Curves.{curvesInRange, pairsInRange}
 use Rattle.curve_probability.specs.Probability.{onlineProbability, offlineProbability}
 use Rattle.pricing_sums.specs.Sums.{plus}
-use Rattle.pricing_snapshot.specs.Snapshot.{headerFields, Entry, standsIn, resourcesAt, dueLines, snapshotIn}
+use Rattle.pricing_snapshot.specs.Snapshot.{headerFields, Entry, resourcesAt, dueLines, snapshotIn}
 use Rattle.pricing_adder.specs.Reserve.{twiceLoads, twiceOnline, twiceAll, discounted, onlineReserve, totalReserve}
 use Rattle.pricing_adder.specs.Price.{valueOfReserve, rounded, shortageOnline, shortageOffline, pricesOf}
 use Rattle.pricing_adder.specs.declared.price.Prices.{Prices}

@@ -6,6 +6,7 @@ use Rattle.known.specs.Settling.{settledValues}
 use Rattle.known.specs.Pricing.{pricedValues}
 use Rattle.known.specs.Page.{pageValues}
 use Rattle.known.specs.Group.{groupValues}
+use Rattle.known.specs.Held.{heldValues}
 
 abbrev pub allKnownValues : List (List ℤ × List ℤ)
-allKnownValues = tableValues ++ (settledValues ++ (pricedValues ++ (pageValues ++ groupValues)))
+allKnownValues = tableValues ++ (settledValues ++ (pricedValues ++ (pageValues ++ (groupValues ++ heldValues))))

@@ -5,4 +5,5 @@ pub mod Settling
 pub mod Pricing
 pub mod Page
 pub mod Group
+pub mod Held
 pub mod Known

@@ -1,20 +1,32 @@
--- No refusal has the number 0, by which hosts know an accepted call: each has one of 1 to 14.
+-- No refusal has the number 0, by which hosts know an accepted call.
 use Prim.Native.Nat.{ℕ, _≤_}
 use native.Mathlib.Omega.{arith}
-use mathlib.Core.Bool.{false}
+use mathlib.Core.Bool.{Bool, true, false, cond}
 use mathlib.Core.List.{List}
-use mathlib.Core.Path.{_≡_}
+use mathlib.Core.Path.{_≡_, refl, sym}
 use borrow.Author.Tests.{ne-eqb}
-use lib.Dec.{eqb}
+use lib.Dec.{eqb, leb}
+use lib.IntN.{ℤ}
+use lib.ListN.{length}
+use Rattle.text_refusal.specs.Answer.{refusal, followedBy}
 use Rattle.text_refusal.specs.declared.answer.Answer.{Answer}
 use Rattle.text_refusal.specs.declared.answer.Answer.the-variants as answer
+use Rattle.text_schema.specs.Checked.{firstRefused}
+use Rattle.text_schema.proofs.Checked.{first-numbered}
 use Rattle.curve_text.specs.CurveText.{readCurves, writingCurves, writingAnswer}
 use Rattle.curve_page.specs.Page.{writingPage}
 use Rattle.curve_settling.specs.Settle.{settled}
 use Rattle.curve_booking.specs.Booking.{booked}
 use Rattle.curve.proofs.Numbered.{AnswerNumbered, booked-numbered, settled-numbered, AnswerListed, curves-listed, writing-numbered, page-numbered}
 use Rattle.pricing.specs.Pricing.{priced}
-use Rattle.pricing.proofs.Numbered.{PricingListed, pricing-listed}
+use Rattle.pricing.proofs.Numbered.{SnapshotListed, snapshot-listed, PricingListed, pricing-listed}
+use Rattle.pricing_snapshot.specs.Snapshot.{SnapshotAnswer, read, refused-by, snapshotIn}
+use Rattle.pricing_held.specs.Rows.{heldCount}
+use Rattle.pricing_held.specs.Lines.{heldLines, heldAnswer, heldText}
+use Rattle.pricing_held.proofs.Definitions.{held-answer-is}
+use Rattle.pricing_held_reading.specs.Reading.{readingAnswer}
+use Rattle.pricing_held_reading.proofs.Definitions.{reading-held-is}
+use Rattle.pricing_held_text.proofs.Cases.{writing-held-is}
 use Rattle.pricing_adder.specs.declared.price.Pricing.{Pricing}
 use Rattle.pricing_adder.specs.declared.price.Pricing.the-variants as pricing
 use Rattle.ordc.specs.Price.{pricingAnswer}
@@ -35,6 +47,26 @@ listed-pricing : (text : List ℕ) (found : Pricing) → PricingListed text foun
 listed-pricing text (pricing.Priced prices) n = tt
 listed-pricing text (pricing.Refused found) n = not-none (found .number) (n .least)
 
+-- nothing, or too little room
+room-numbered : (b : Bool) → Numbered (cond b answer.Accepted (refusal 14 0))
+room-numbered true = tt
+room-numbered false = refl
+
+listed-reading : (text : List ℕ) (rows : ℕ) (found : SnapshotAnswer) → SnapshotListed text found → Numbered (readingAnswer rows found)
+listed-reading text rows (refused-by found) n = not-none (found .number) (n .least)
+listed-reading text rows (read h entries) n = room-numbered (leb (length entries) rows)
+
+held-numbered : (header : List ℤ) (ids : List ℕ) (numbers : List ℤ) → Numbered (heldAnswer header ids numbers)
+held-numbered header ids numbers = go (heldAnswer header ids numbers) (sym (held-answer-is header ids numbers))
+  where
+    go : (found : Answer) → firstRefused 1 (heldLines header ids numbers) ≡ found → Numbered found
+    go answer.Accepted e = tt
+    go (answer.Refused found) e = first-numbered 1 (heldLines header ids numbers) e
+
+followed-numbered : (found : Answer) (room : Bool) → Numbered found → Numbered (followedBy found (cond room answer.Accepted (refusal 14 0)))
+followed-numbered answer.Accepted room n = room-numbered room
+followed-numbered (answer.Refused found) room n = n
+
 pub refusals-are-numbered : RefusalsAreNumbered
 refusals-are-numbered =
     record {
@@ -44,4 +76,10 @@ refusals-are-numbered =
       writing = λ curves buffer. numbered (writingAnswer (writingCurves curves buffer)) (writing-numbered curves buffer);
       page = λ curves buffer. numbered (writingPage curves buffer) (page-numbered curves buffer);
       pricing = λ curves text. listed-pricing text (priced curves text) (pricing-listed curves text);
+      reading-snapshot =
+          λ text ids numbers. rw (reading-held-is text ids numbers) (listed-reading text (heldCount ids numbers) (snapshotIn text) (snapshot-listed text));
+      snapshot-length = held-numbered;
+      writing-snapshot =
+          λ header ids numbers buffer. rw (writing-held-is header ids numbers buffer)
+          (followed-numbered (heldAnswer header ids numbers) (leb (length (heldText header ids numbers)) (length buffer)) (held-numbered header ids numbers));
     }

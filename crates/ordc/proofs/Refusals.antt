@@ -14,11 +14,26 @@ use Rattle.curve.specs.FirstRefusal.{Writing, WritingCurvesCase, set-impossible
 use Rattle.curve.proofs.FirstRefusal.{writing-curves-is-refused-first}
 use Rattle.curve_settling.specs.Settle.{settled}
 use Rattle.curve_booking.specs.Booking.{booked}
+use Rattle.pricing_held.specs.Lines.{heldAnswer}
+use Rattle.pricing_held_reading.specs.Reading.{readingHeld}
+use Rattle.pricing_held_text.specs.Writing.{writingHeld}
 use Rattle.pricing.specs.Pricing.{priced}
 use Rattle.ordc.specs.Reply.{replyTo, Answered}
 use Rattle.ordc.specs.Record.{recordOf}
 use Rattle.ordc.specs.Price.{pricingAnswer}
-use Rattle.ordc.specs.Promises.{Numbered, CallEnds, BookCallIsRefusedFirst, SettleCallIsRefusedFirst, ReadCurvesCallIsRefusedFirst, WriteCurvesCallIsRefusedFirst, WritePageCallIsRefusedFirst, PriceCallIsRefusedFirst}
+use Rattle.ordc.specs.Promises.{
+  Numbered,
+  CallEnds,
+  BookCallIsRefusedFirst,
+  SettleCallIsRefusedFirst,
+  ReadCurvesCallIsRefusedFirst,
+  WriteCurvesCallIsRefusedFirst,
+  WritePageCallIsRefusedFirst,
+  PriceCallIsRefusedFirst,
+  ReadSnapshotCallIsRefusedFirst,
+  SnapshotLengthCallIsRefusedFirst,
+  WriteSnapshotCallIsRefusedFirst,
+}
 use Rattle.ordc.specs.declared.reply.Reply.{Reply}
 use Rattle.ordc.proofs.Calls.{Ended, ended-accepted, ended-refused, ended-by}
 use Rattle.ordc.proofs.Numbered.{refusals-are-numbered}
@@ -76,3 +91,19 @@ write-page-call-is-refused-first values before after r called = call-ends (writi
 pub price-call-is-refused-first : PriceCallIsRefusedFirst
 price-call-is-refused-first curves before after text r called =
     call-ends (pricingAnswer (priced (curvesOf curves) text)) (refusals-are-numbered .pricing (curvesOf curves) text) called
+
+pub read-snapshot-call-is-refused-first : ReadSnapshotCallIsRefusedFirst
+read-snapshot-call-is-refused-first text header ids numbers header′ ids′ numbers′ r called =
+    let ended = readingHeld text ids numbers in
+    let n = refusals-are-numbered .reading-snapshot text ids numbers in
+    (call-ends ended n (called .header-is), call-ends ended n (called .ids-are), call-ends ended n (called .numbers-are))
+
+pub snapshot-length-call-is-refused-first : SnapshotLengthCallIsRefusedFirst
+snapshot-length-call-is-refused-first header ids numbers before after r called =
+    call-ends (heldAnswer header ids numbers) (refusals-are-numbered .snapshot-length header ids numbers) called
+
+pub write-snapshot-call-is-refused-first : WriteSnapshotCallIsRefusedFirst
+write-snapshot-call-is-refused-first header ids numbers buffer buffer′ before after r called =
+    let ended = writingHeld header ids numbers buffer in
+    let n = refusals-are-numbered .writing-snapshot header ids numbers buffer in
+    (call-ends ended n (called .count), call-ends ended n (called .bytes))

@@ -4,5 +4,6 @@ pub mod Record
 pub mod CurveText
 pub mod Page
 pub mod Price
+pub mod Snapshot
 pub mod Calls
 pub mod Promises

@@ -8,6 +8,8 @@ use lib.IntN.{ℤ, pos}
 use lib.ListN.{length}
 use lib.Signed.{_≤ℤ_}
 use Rattle.text_refusal.specs.declared.refusal.Refusal.{Refusal}
+use Rattle.text_schema.specs.Schema.{laidOver}
+use Rattle.text_writer.specs.Write.{laidAt}
 use Rattle.curve_set.specs.CurveValues.{curveValues, curvesOf}
 use Rattle.curve_set.specs.declared.CurveSet.{CurveSet}
 use Rattle.curve_set.specs.declared.Curves.{Curves}
@@ -23,6 +25,9 @@ use Rattle.curve_booking.specs.Booking.{booked}
 use Rattle.curve_booking.specs.declared.Booking.{Booking}
 use Rattle.pricing_sums.specs.declared.header.Header.{Header}
 use Rattle.pricing_snapshot.specs.Snapshot.{Entry, read, snapshotIn}
+use Rattle.pricing_held.specs.Lines.{heldAnswer, heldText}
+use Rattle.pricing_held_reading.specs.Reading.{idRows, numberRows, readingHeld, headerRead, entriesRead}
+use Rattle.pricing_held_text.specs.Writing.{writingHeld}
 use Rattle.pricing_adder.specs.Price.{valueOfReserve, pricingValues}
 use Rattle.pricing_adder.specs.declared.price.Pricing.{Pricing}
 use Rattle.pricing.specs.Pricing.{priced}
@@ -31,6 +36,7 @@ use Rattle.ordc.specs.Record.{recordOf, recordValues, BookCalled, Settle
 use Rattle.ordc.specs.CurveText.{ReadCurvesCalled, WriteCurvesCalled}
 use Rattle.ordc.specs.Page.{WritePageCalled}
 use Rattle.ordc.specs.Price.{pricingAnswer, PriceCalled, onlinePrice, offlinePrice}
+use Rattle.ordc.specs.Snapshot.{ReadSnapshotCalled, SnapshotLengthCalled, WriteSnapshotCalled}
 use Rattle.ordc.specs.Calls.{Accepted, HistoryPriced, BookCallsLowered}
 use Rattle.ordc.specs.declared.reply.Reply.{Reply}
 
@@ -67,6 +73,9 @@ pub record RefusalsAreNumbered : Type 0 where
   pub writing : (curves : CurveSet) (buffer : List ℕ) → Numbered (writingAnswer (writingCurves curves buffer))
   pub page : (curves : CurveSet) (buffer : List ℕ) → Numbered (writingPage curves buffer)
   pub pricing : (curves : CurveSet) (text : List ℕ) → Numbered (pricingAnswer (priced curves text))
+  pub reading-snapshot : (text ids : List ℕ) (numbers : List ℤ) → Numbered (readingHeld text ids numbers)
+  pub snapshot-length : (header : List ℤ) (ids : List ℕ) (numbers : List ℤ) → Numbered (heldAnswer header ids numbers)
+  pub writing-snapshot : (header : List ℤ) (ids : List ℕ) (numbers : List ℤ) (buffer : List ℕ) → Numbered (writingHeld header ids numbers buffer)
 
 -- how a call ends, by the answer of the operation that it calls: the refusal first in document 01's order, or none; nothing else is refused
 pub record CallEnds {A : Type 0} (ended : Answer) (before given after : A) (r : Reply) : Type 0 where
@@ -117,6 +126,29 @@ PriceCallIsRefusedFirst =
     (curves before after : List ℤ) (text : List ℕ) (r : Reply) → PriceCalled curves text before after r →
     let pricing : Pricing = priced (curvesOf curves) text in
     CallEnds (pricingAnswer pricing) before (pricingValues pricing) after r
+
+-- `ordc_read_snapshot` is refused as the reading is, and then leaves header, ids and numbers
+abbrev pub ReadSnapshotCallIsRefusedFirst : Type 0
+ReadSnapshotCallIsRefusedFirst =
+    (text : List ℕ) (header : List ℤ) (ids : List ℕ) (numbers header′ : List ℤ) (ids′ : List ℕ) (numbers′ : List ℤ) (r : Reply) →
+    ReadSnapshotCalled text header ids numbers header′ ids′ numbers′ r →
+    CallEnds (readingHeld text ids numbers) header (headerRead (snapshotIn text)) header′ r
+    × CallEnds (readingHeld text ids numbers) ids (laidOver (idRows (entriesRead (snapshotIn text))) ids) ids′ r
+    × CallEnds (readingHeld text ids numbers) numbers (laidOver (numberRows (entriesRead (snapshotIn text))) numbers) numbers′ r
+
+-- `ordc_snapshot_length` is refused as the first refused line is, and then leaves the length
+abbrev pub SnapshotLengthCallIsRefusedFirst : Type 0
+SnapshotLengthCallIsRefusedFirst =
+    (header : List ℤ) (ids : List ℕ) (numbers : List ℤ) (before after : ℕ) (r : Reply) → SnapshotLengthCalled header ids numbers before after r →
+    CallEnds (heldAnswer header ids numbers) before (length (heldText header ids numbers)) after r
+
+-- `ordc_write_snapshot` is refused as the writing is, and then leaves the length and the buffer
+abbrev pub WriteSnapshotCallIsRefusedFirst : Type 0
+WriteSnapshotCallIsRefusedFirst =
+    (header : List ℤ) (ids : List ℕ) (numbers : List ℤ) (buffer buffer′ : List ℕ) (before after : ℕ) (r : Reply) →
+    WriteSnapshotCalled header ids numbers buffer before buffer′ after r →
+    CallEnds (writingHeld header ids numbers buffer) before (length (heldText header ids numbers)) after r
+    × CallEnds (writingHeld header ids numbers buffer) buffer (laidAt buffer 0 (heldText header ids numbers)) buffer′ r
 
 -- ---- demand 3 over the calls
 

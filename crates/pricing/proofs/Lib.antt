@@ -5,3 +5,8 @@ pub mod Settling
 pub mod Small
 pub mod Promises
 pub mod Numbered
+pub mod ResourceTrip
+pub mod RowsTrip
+pub mod SnapshotTrip
+pub mod HeldRows
+pub mod Held

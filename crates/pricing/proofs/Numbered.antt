@@ -36,11 +36,11 @@ faulty-line-numbered : {text : List ℕ} {found : Fault} → FaultyLine text fou
 faulty-line-numbered {text} (in-header e) = subst LinesNumbered e (reading-numbered headerFields (schema-numbered headerSchema) text 0)
 faulty-line-numbered (in-resources e later) = faulty-resource-numbered later
 
-abbrev SnapshotListed : List ℕ → SnapshotAnswer → Type 0
+abbrev pub SnapshotListed : List ℕ → SnapshotAnswer → Type 0
 SnapshotListed text (read h entries) = Unit
 SnapshotListed text (refused-by found) = Listed text found
 
-snapshot-listed : (text : List ℕ) → SnapshotListed text (snapshotIn text)
+pub snapshot-listed : (text : List ℕ) → SnapshotListed text (snapshotIn text)
 snapshot-listed text = go (snapshotIn text) (snapshot-case text)
   where
     go : (a : SnapshotAnswer) → SnapshotCase text a → SnapshotListed text a

@@ -4,3 +4,5 @@ pub mod Small
 pub mod Lines
 pub mod Making
 pub mod Numbered
+pub mod Places
+pub mod Keys

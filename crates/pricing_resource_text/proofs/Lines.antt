@@ -1,15 +1,14 @@
 -- Laws on the lines of a resource: lines that were read into places, and what the readers' answers come to.
 use Prim.Native.Nat.{ℕ}
-use mathlib.Core.Path.{_≡_, refl, sym, _∙_}
-use mathlib.Core.List.{List, [], _∷_, _++_, append-nil}
+use mathlib.Core.Path.{_≡_, refl}
+use mathlib.Core.List.{List, [], _∷_, _++_}
 use lib.IntN.{ℤ, pos, negℤ}
-use lib.ListN.{length, replicate, length-replicate}
-use lib.Seq.{drop-length}
+use lib.ListN.{length, replicate}
 use Rattle.text_refusal.specs.Bytes.{bytes}
 use Rattle.text_refusal.specs.declared.refusal.Fault.{Fault}
 use Rattle.text_line.specs.Field.{Field, LineAnswer, got, refused}
 use Rattle.text_schema.specs.Schema.{readFields, LinesRead}
-use Rattle.text_schema.proofs.Fields.{Schema, schema-of, places, lines-ended, lines-filled, lines-laid}
+use Rattle.text_schema.proofs.Fields.{Schema, schema-of, schemaFields, places, lines-ended, lines-filled, lines-laid}
 use Rattle.text_line.specs.declared.Lines.{Lines}
 use Rattle.text_line.specs.declared.Lines.the-variants as lines
 use Rattle.pricing_resource_text.specs.Resource.{generatorFields, controllableFields, loadFields, linesAs, ofLines, afterAnswer}
@@ -28,6 +27,19 @@ controllableSchema = schema-of (bytes "base=lpc=nonspin=regup=") (replicate 4 (p
 unfoldable pub loadSchema : Schema loadFields
 unfolding loadFields
 loadSchema = schema-of (bytes "rrsok=net=lpc=rrs=") (replicate 4 (pos 0)) (pos 1 ∷ replicate 3 (pos 2000000)) refl
+
+-- the same, written out
+pub generator-computed : generatorFields ≡ schemaFields (bytes "net=lsl=hsl=base=nonspin=cold30=") (negℤ (pos 2000000) ∷ replicate 5 (pos 0)) (replicate 5 (pos 2000000) ++ (pos 1 ∷ []))
+unfolding generatorFields
+generator-computed = refl
+
+pub controllable-computed : controllableFields ≡ schemaFields (bytes "base=lpc=nonspin=regup=") (replicate 4 (pos 0)) (replicate 4 (pos 2000000))
+unfolding controllableFields
+controllable-computed = refl
+
+pub load-computed : loadFields ≡ schemaFields (bytes "rrsok=net=lpc=rrs=") (replicate 4 (pos 0)) (pos 1 ∷ replicate 3 (pos 2000000))
+unfolding loadFields
+load-computed = refl
 
 -- ---- lines read by a schema
 

@@ -2,17 +2,12 @@
 -- and there are as many resources as `count` says.
 use Prim.Native.Nat.{ℕ, zero, suc, _<_}
 use native.Mathlib.Omega.{arith}
-use mathlib.Core.Path.{_≡_, refl, subst}
-use mathlib.Core.Bool.{Bool, true, false, _&&_, cond}
-use mathlib.Core.List.{List, [], _∷_}
-use mathlib.Core.Option.{Option, none, some}
+use mathlib.Core.Path.{_≡_, refl, subst, sym, _∙_}
+use mathlib.Core.List.{List}
 use lib.Dec.{lit<}
 use lib.IntN.{ℤ, pos, negℤ}
-use lib.ListN.{length, getD}
-use lib.Signed.{leZ}
 use Rattle.text_refusal.specs.Bytes.{bytes}
 use Rattle.text_line.specs.Field.{Field, LineAnswer, got, refused, fieldAt}
-use Rattle.text_number.specs.Field.{numberField}
 use Rattle.text_schema.specs.Schema.{Reading, readFields}
 use Rattle.text_schema.proofs.Readings.{number-at}
 use Rattle.text_line.specs.declared.Lines.{Lines}
@@ -23,7 +18,7 @@ use Rattle.pricing_resource.specs.declared.Kind.{Kind}
 use Rattle.pricing_resource.specs.declared.Kind.the-variants as kind
 use Rattle.pricing_resource.specs.declared.Status.{Status}
 use Rattle.pricing_resource.specs.declared.Resource.{Resource}
-use Rattle.pricing_resource.specs.internal.Range.{Between, ResourceInRange}
+use Rattle.pricing_resource.specs.internal.Range.{ResourceInRange}
 
 -- ---- a resource
 
@@ -42,7 +37,7 @@ pub record LinesGiven {A : Type 0} (make : List ℤ → A) (reading : Reading �
   pub ended : reading .end ≡ lines.Read next
   pub made : make (reading .values) ≡ found
 
-lines-given : {A : Type 0} (make : List ℤ → A) (values : List ℤ) (end : Lines) {found : A} {next : ℕ} → ofLines make values end ≡ got found next → LinesGiven make (record { values = values; end = end }) found next
+pub lines-given : {A : Type 0} (make : List ℤ → A) (values : List ℤ) (end : Lines) {found : A} {next : ℕ} → ofLines make values end ≡ got found next → LinesGiven make (record { values = values; end = end }) found next
 lines-given make values (lines.Read next) e = record { ended = cc; made = cc }
 lines-given make values (lines.Refused fault) e = let z : _≡_ {A = ℕ} 0 1 = cc in absurd (omega arith)
 
@@ -97,9 +92,15 @@ of-kind text (suc (suc (suc zero))) at e = generator-at kind.Nuke text at e
 of-kind text (suc (suc (suc (suc zero)))) at e = in-range controllableOf controllableFields text at (controllable-read text at) e
 of-kind text (suc (suc (suc (suc (suc n))))) at e = in-range loadOf loadFields text at (load-read text at) e
 
+-- the kind's line, then those of the kind
+pub resource-is : (text : List ℕ) (at : ℕ) → resourceAt text at ≡ afterAnswer (fieldAt kindField text at) (ofKind text)
+unfolding resourceAt
+resource-is text at = refl
+
+-- a resource that was read: its kind, and the lines of that kind
+pub resource-followed : (text : List ℕ) (at : ℕ) {one : Resource} {next : ℕ} → resourceAt text at ≡ got one next → Followed (fieldAt kindField text at) (ofKind text) one next
+resource-followed text at e = followed (fieldAt kindField text at) (ofKind text) (sym (resource-is text at) ∙ e)
+
 -- a resource that was read is in range
 pub resource-read : (text : List ℕ) (at : ℕ) {one : Resource} {next : ℕ} → resourceAt text at ≡ got one next → ResourceInRange one
-unfolding resourceAt
-resource-read text at e =
-    let f = followed (fieldAt kindField text at) (λ k next. ofKind text k next) e in
-    of-kind text (f .one) (f .after) (f .then)
+resource-read text at e = let f = resource-followed text at e in of-kind text (f .one) (f .after) (f .then)

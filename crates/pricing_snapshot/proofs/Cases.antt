@@ -17,10 +17,11 @@ use Rattle.text_line.specs.declared.Lines.the-variants as lines
 use Rattle.text_line.specs.Field.{LineAnswer, got, refused, fieldAt}
 use Rattle.text_schema.specs.Schema.{readFields}
 use Rattle.text_id.specs.Id.{idField}
+use Rattle.text_id_table.specs.Ids.{standsIn}
 use Rattle.pricing_resource.specs.declared.Resource.{Resource}
 use Rattle.pricing_sums.specs.declared.header.Header.{Header}
 use Rattle.pricing_resource_text.specs.Resource.{afterAnswer, ofLines, linesAs, resourceAt}
-use Rattle.pricing_snapshot.specs.Snapshot.{headerFields, headerOf, standsIn, newIdAt, Entry, withEntry, resourcesAt, Contents, afterHeader, dueLines, SnapshotAnswer, read, refused-by, afterLast, afterLines, snapshotIn}
+use Rattle.pricing_snapshot.specs.Snapshot.{headerFields, headerOf, newIdAt, Entry, withEntry, resourcesAt, Contents, afterHeader, dueLines, SnapshotAnswer, read, refused-by, afterLast, afterLines, snapshotIn}
 use Rattle.pricing_snapshot.specs.Promises.{FaultyResource, faulty-id, repeated-id, faulty-lines, later-resource, FaultyLine, in-header, in-resources, FirstFaultyLineIsRefused, SnapshotIsRefusedFirst}
 
 -- 2, the first faulty line, 9, or the snapshot
@@ -149,3 +150,18 @@ snapshot-is-refused-first text =
       bytes-after = λ found next short due more. rw (case-after text short due more) (refl, refl);
       accepted = λ found next short due over. rw (case-whole text short due over);
     }
+
+-- ---- the definitions, step by step
+
+module _ (reader : List ℕ → ℕ → LineAnswer Resource) (above : List (List ℕ)) (text : List ℕ) (at : ℕ) where
+  pub resources-more :
+      (n : ℕ) →
+      resourcesAt reader (suc n) above text at ≡
+      afterAnswer (newIdAt above text at)
+      (λ id next. afterAnswer (reader text next) (λ one after. afterAnswer (resourcesAt reader n (id ∷ above) text after) (λ others last. got (withEntry id one others) last)))
+  unfolding resourcesAt
+  resources-more n = refl
+
+pub due-lines-are : (text : List ℕ) → dueLines text ≡ afterAnswer (linesAs headerOf headerFields text 0) (λ h next. afterHeader text h next)
+unfolding dueLines
+due-lines-are text = refl

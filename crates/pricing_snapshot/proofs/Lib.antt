@@ -2,6 +2,7 @@
 pub mod Cases
 pub mod Readings
 pub mod Summing
-pub mod Buckets
 pub mod Taken
 pub mod Snapshots
+pub mod HeaderLines
+pub mod Entries

@@ -9,13 +9,15 @@ use Rattle.text_refusal.specs.declared.refusal.Fault.{Fault}
 use Rattle.text_line.specs.Field.{LineAnswer, got, refused}
 use Rattle.text_refusal.specs.Bytes.{bytes}
 use Rattle.text_line.specs.Line.{valueAt}
+use Rattle.text_id_table.specs.internal.Kept.{IdTable, Room}
+use Rattle.text_id_table.proofs.Table.{table-room}
 use Rattle.pricing_sums.specs.Sums.{noSums, plus}
 use Rattle.pricing_sums.specs.declared.Sums.{Sums}
 use Rattle.pricing_resource_text.specs.Resource.{afterAnswer, resourceAt}
 use Rattle.pricing_sums.specs.internal.Range.{SumsWithin}
 use Rattle.pricing_sums.specs.Part.{partOf}
 use Rattle.pricing_snapshot.specs.Snapshot.{Entry, newIdAt, withEntry, resourcesAt, resourcesOf, summed, resourcesAnswer}
-use Rattle.pricing_snapshot.specs.internal.Ids.{Slots, IdTable, Room, idAnswer, IdKept}
+use Rattle.pricing_snapshot.specs.internal.Ids.{RoomLeft, idAnswer, IdKept}
 use Rattle.pricing_resource.specs.declared.Resource.{Resource}
 use Rattle.pricing_snapshot.specs.declared.ids.NewId.{NewId}
 use Rattle.pricing_snapshot.specs.declared.ids.NewId.the-variants as new-id
@@ -24,7 +26,6 @@ use Rattle.pricing_snapshot.specs.declared.resources.Resources.the-varia
 use Rattle.pricing_sums.proofs.Addition.{plus-none, none-plus, plus-assoc, sums-none, sums-more}
 use Rattle.pricing_sums.proofs.Parts.{part-within, plus-within, none-within, within-more}
 use Rattle.pricing_resource_text.proofs.Readings.{resource-read, followed}
-use Rattle.pricing_snapshot.proofs.Buckets.{table-slots}
 
 -- ---- sums add up
 
@@ -51,15 +52,15 @@ summed-more id one (refused found) = refl
 -- n of them are read: their sums, their ids in the table, and the rest is due at a position
 pub record Summing (text : List ℕ) (at count : ℕ) (starts₀ starts : List ℕ) (sums : Sums) (next n : ℕ) : Type 0 where
   pub due : n ≤ count
-  pub room : Room text count starts
+  pub room : Room count starts
   pub long : length starts ≡ length starts₀
   pub above : List (List ℕ)
   pub counted : length above ≡ n
-  pub table : IdTable text starts above
+  pub table : IdTable 10 text starts above
   pub within : SumsWithin n sums
   pub rest : summed (resourcesAt resourceAt count [] text at) ≡ added sums (summed (resourcesAt resourceAt (count - n) above text next))
 
-pub summing-start : (text : List ℕ) (at count : ℕ) {starts : List ℕ} → IdTable text starts [] → Room text count starts → Summing text at count starts starts noSums at 0
+pub summing-start : (text : List ℕ) (at count : ℕ) {starts : List ℕ} → IdTable 10 text starts [] → Room count starts → Summing text at count starts starts noSums at 0
 summing-start text at count table room =
     record {
       due = omega arith;
@@ -80,8 +81,8 @@ module _
 
   module _ (more : n < count) where
     -- there is room for one more id
-    pub summing-slots : Slots text starts
-    summing-slots = table-slots (so-far .table) (so-far .room .short) (omega (arith, so-far .counted, so-far .room .slots))
+    abbrev pub summing-room : RoomLeft text starts
+    summing-room = record { above = so-far .above; table = so-far .table; one = table-room (so-far .table) (so-far .room) (omega (arith, so-far .counted)) }
 
     -- and for what it adds
     pub summing-within : SumsWithin 4095 sums
@@ -105,7 +106,7 @@ module _
             added sums (summed (afterAnswer (resourceAt text after)
             (λ one last. afterAnswer (resourcesAt resourceAt (count - (n + 1)) (valueAt (bytes "id=") text next ∷ so-far .above) text last)
             (λ others end′. got (withEntry (valueAt (bytes "id=") text next) one others) end′))))
-        resource-due = rw (one-due, ← kept .answers (so-far .above) (so-far .table), id-told)
+        resource-due = rw (one-due, ← kept .answers summing-room, id-told)
 
         summing-refused : {told : Fault} → answer ≡ resources.Refused told → resourcesAnswer answer ≡ summed (resourcesAt resourceAt count [] text at)
         summing-refused {told} is = go (resourceAt text after) refl (sym read ∙ ap resourcesAnswer is)
@@ -121,11 +122,11 @@ module _
         summing-read {one} {sums′} {last} is s l =
             record {
               due = omega arith;
-              room = record { short = so-far .room .short; few = so-far .room .few; slots = omega (arith, l, so-far .room .slots) };
+              room = record { few = so-far .room .few; slots = omega (arith, l, so-far .room .slots) };
               long = l ∙ so-far .long;
               above = valueAt (bytes "id=") text next ∷ so-far .above;
               counted = omega (arith, so-far .counted);
-              table = kept .table (so-far .above) (so-far .table) after id-told;
+              table = kept .table summing-room after id-told;
               within = rw s (plus-within n 1 (so-far .within) (part-within one (resource-read text after is)));
               rest =
                   resource-due
@@ -159,7 +160,7 @@ module _
               resourcesAnswer answer ≡
               afterAnswer (idAnswer (valueAt (bytes "id=") text next) found) (λ of after. afterAnswer (resourceAt text after) (λ one last. got (plus sums (partOf one)) last)) →
               resourcesAnswer answer ≡ summed (resourcesAt resourceAt count [] text at)
-          stop (new-id.Refused fault) kept read = rw (read, one-due, ← kept .answers (so-far .above) (so-far .table))
+          stop (new-id.Refused fault) kept read = rw (read, one-due, ← kept .answers summing-room)
           stop (new-id.Next after) kept read = summing-refused kept refl answer read is
 
       -- one more resource is read

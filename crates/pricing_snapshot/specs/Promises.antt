@@ -13,11 +13,12 @@ use Rattle.text_line.specs.declared.Lines.the-variants as lines
 use Rattle.text_line.specs.Field.{LineAnswer, got, refused, fieldAt}
 use Rattle.text_schema.specs.Schema.{readFields}
 use Rattle.text_id.specs.Id.{idField}
+use Rattle.text_id_table.specs.Ids.{standsIn}
 use Rattle.pricing_sums.specs.Part.{sumsOf}
 use Rattle.pricing_sums.specs.declared.header.Header.{Header}
 use Rattle.pricing_resource.specs.declared.Resource.{Resource}
 use Rattle.pricing_resource_text.specs.Resource.{linesAs, resourceAt}
-use Rattle.pricing_snapshot.specs.Snapshot.{headerFields, headerOf, standsIn, newIdAt, resourcesOf, Contents, dueLines, snapshotIn, snapshotSums, snapshotNumber, snapshotLine}
+use Rattle.pricing_snapshot.specs.Snapshot.{headerFields, headerOf, newIdAt, resourcesOf, Contents, dueLines, snapshotIn, snapshotSums, snapshotNumber, snapshotLine}
 use Rattle.pricing_snapshot.specs.declared.Snapshot.{Snapshot}
 use Rattle.pricing_snapshot.specs.declared.Snapshot.the-variants as snapshot
 

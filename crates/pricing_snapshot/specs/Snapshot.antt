@@ -1,6 +1,6 @@
 -- Document 01, "Snapshot to reserves": the snapshot text. Refusals 2, the lines with 3 to 8, 9.
 use Prim.Native.Nat.{ℕ, zero, suc}
-use mathlib.Core.Bool.{Bool, true, false, _||_, cond}
+use mathlib.Core.Bool.{cond}
 use mathlib.Core.List.{List, [], _∷_, map}
 use lib.Dec.{ltb}
 use lib.IntN.{ℤ, natAbs}
@@ -11,8 +11,8 @@ use Rattle.text_line.specs.Lines.{endAt}
 use Rattle.text_refusal.specs.Refusal.{fault}
 use Rattle.text_line.specs.Field.{Field, LineAnswer, got, refused, fieldAt}
 use Rattle.text_number.specs.Field.{numberField}
-use Rattle.text_word.specs.Word.{sameBytes}
 use Rattle.text_id.specs.Id.{idField}
+use Rattle.text_id_table.specs.Ids.{standsIn}
 use Rattle.text_refusal.specs.declared.refusal.Refusal.{Refusal}
 use Rattle.text_line.specs.declared.Lines.{Lines}
 use Rattle.text_line.specs.declared.Lines.the-variants as lines
@@ -53,11 +53,6 @@ pub record Entry : Type 0 where
   pub resource : Resource
 
 -- ---- ids
-
--- whether an id stands among others
-unfoldable pub standsIn : List ℕ → List (List ℕ) → Bool
-standsIn id [] = false
-standsIn id (other ∷ others) = sameBytes id other || standsIn id others
 
 -- the id due at a position: one that stands above is refused by 8 at its own line
 abbrev pub newIdAt : List (List ℕ) → List ℕ → ℕ → LineAnswer (List ℕ)

@@ -7,7 +7,6 @@ ghost use mathlib.Core.Path.{_≡_};
 ghost use mathlib.Core.List.{[]};
 ghost use Prim.Native.Nat.{_≤_};
 ghost use lib.IntN.{natAbs};
-ghost use lib.ListN.{length};
 ghost use Rattle.pricing_resource_text.specs.Resource.{resourceAt};
 ghost use Rattle.pricing_snapshot.specs.Snapshot.{resourcesAt, summed, resourcesAnswer, afterHeader, afterLines, snapshotIn, snapshotSums};
 use crate::header::header_at;
@@ -30,7 +29,7 @@ pub enum Snapshot {
 
 // The resources; where they are few, the table of their ids is small.
 fn resources_in(text: &[u8], at: usize, count: usize) -> Resources
-    requires { ⌜ length (now text) ≤ 1048576 ⌝ ∗ ⌜ count ≤ 4096 ⌝ }
+    requires { ⌜ count ≤ 4096 ⌝ }
     ensures { λ r. ⌜ resourcesAnswer r ≡ summed (resourcesAt resourceAt count [] (now (text .entry)) at) ⌝ }
 {
     if count <= 64 {
@@ -43,7 +42,7 @@ fn resources_in(text: &[u8], at: usize, count: usize) -> Resources
 
 // What follows a header that ends at a position.
 fn after_header(text: &[u8], header: Header, at: usize) -> Snapshot
-    requires { ⌜ length (now text) ≤ 1048576 ⌝ ∗ ⌜ natAbs (header .count) ≤ 4096 ⌝ }
+    requires { ⌜ natAbs (header .count) ≤ 4096 ⌝ }
     ensures { λ r. ⌜ r ≡ snapshotSums (afterLines (now (text .entry)) (afterHeader (now (text .entry)) header at)) ⌝ }
 {
     let count = magnitude(header.count) as usize;

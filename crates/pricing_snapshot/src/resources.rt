@@ -2,13 +2,14 @@
 ghost use mathlib.Core.Path.{_≡_};
 ghost use mathlib.Core.List.{List, []};
 ghost use Prim.Native.Nat.{ℕ};
+ghost use Rattle.text_id_table.specs.internal.Kept.{IdTable, Room};
 ghost use Rattle.pricing_sums.specs.Sums.{plus};
 ghost use Rattle.text_line.specs.Field.{got};
 ghost use Rattle.pricing_sums.specs.internal.Range.{SumsWithin};
 ghost use Rattle.pricing_sums.specs.Part.{partOf};
 ghost use Rattle.pricing_resource_text.specs.Resource.{afterAnswer, resourceAt};
 ghost use Rattle.pricing_snapshot.specs.Snapshot.{resourcesAt, summed, resourcesAnswer};
-ghost use Rattle.pricing_snapshot.specs.internal.Ids.{idAnswer, IdTable, Room};
+ghost use Rattle.pricing_snapshot.specs.internal.Ids.{idAnswer};
 use crate::ids::NewId;
 use crate::ids::new_id;
 use pricing_resource_text::ResourceLines;
@@ -62,7 +63,7 @@ fn with_resource(text: &[u8], id: NewId, sums: Sums) -> Resources
 
 // The resources from a position on, their ids kept in a table that is empty.
 pub(crate) fn resources_at(text: &[u8], at: usize, count: usize, starts: &mut [usize]) -> Resources
-    requires { ⌜ IdTable (now text) (now starts) [] ⌝ ∗ ⌜ Room (now text) count (now starts) ⌝ }
+    requires { ⌜ IdTable 10 (now text) (now starts) [] ⌝ ∗ ⌜ Room count (now starts) ⌝ }
     ensures { λ r. ⌜ resourcesAnswer r ≡ summed (resourcesAt resourceAt count [] (now (text .entry)) at) ⌝ }
 {
     let mut sums = Sums {

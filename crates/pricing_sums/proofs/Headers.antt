@@ -3,11 +3,13 @@ use Prim.Native.Nat.{ℕ, suc, _≤_}
 use mathlib.Core.Path.{_≡_, refl}
 use mathlib.Core.Bool.{Bool, true, false, cond}
 use native.Mathlib.Omega.{arith}
-use lib.IntN.{pos, negℤ, natAbs}
+use mathlib.Core.List.{List, [], _∷_}
+use lib.IntN.{ℤ, pos, negℤ, natAbs}
 use lib.Signed.{_≤ℤ_}
+use Rattle.integer.specs.Range.{within}
 use Rattle.integer.proofs.Ranges.{within-low, within-bound, between-within}
 use Rattle.pricing_resource.specs.internal.Range.{Between}
-use Rattle.pricing_sums.specs.Header.{faultFrom, headerFault}
+use Rattle.pricing_sums.specs.Header.{HeaderLine, headerLines, headerValues, faultFrom, headerFault}
 use Rattle.pricing_sums.specs.declared.header.Header.{Header}
 
 -- each number within its range
@@ -45,6 +47,7 @@ pub record HeaderBound (h : Header) : Type 0 where
   pub prc : natAbs (h .prc) ≤ 200000000
   pub eea1 : natAbs (h .eea1) ≤ 200000000
   pub short : natAbs (h .short) ≤ 200000000
+  pub count : natAbs (h .count) ≤ 4096
   pub share : pos 0 ≤ℤ h .factor
 
 -- no fault, so none at this line and none at a later one
@@ -62,6 +65,7 @@ header-bound h e =
     let prc = no-fault _ _ 4 (factor .1) in
     let eea1 = no-fault _ _ 5 (prc .1) in
     let short = no-fault _ _ 6 (eea1 .1) in
+    let count = no-fault _ _ 7 (short .1) in
     record {
       month = within-bound (pos 1) (pos 12) (h .month) 12 refl refl (month .0);
       hour = within-bound (pos 0) (pos 23) (h .hour) 23 refl refl (hour .0);
@@ -70,5 +74,25 @@ header-bound h e =
       prc = within-bound (pos 0) (pos 200000000) (h .prc) 200000000 refl refl (prc .0);
       eea1 = within-bound (pos 0) (pos 200000000) (h .eea1) 200000000 refl refl (eea1 .0);
       short = within-bound (pos 0) (pos 200000000) (h .short) 200000000 refl refl (short .0);
+      count = within-bound (pos 0) (pos 4096) (h .count) 4096 refl refl (count .0);
       share = within-low (pos 0) (pos 10000) (h .factor) (factor .0);
     }
+
+-- ---- the first fault of some lines
+
+pub header-fault-is : (h : Header) → headerFault h ≡ faultFrom 1 headerLines (headerValues h)
+unfolding headerFault
+header-fault-is h = refl
+
+pub fault-none : (line : ℕ) (values : List ℤ) → faultFrom line [] values ≡ 0
+unfolding faultFrom
+fault-none line values = refl
+
+module _ (line : ℕ) (due : HeaderLine) (lines : List HeaderLine) where
+  pub fault-no-values : faultFrom line (due ∷ lines) [] ≡ 0
+  unfolding faultFrom
+  fault-no-values = refl
+
+  pub fault-first : (z : ℤ) (values : List ℤ) → faultFrom line (due ∷ lines) (z ∷ values) ≡ cond (within (due .low) (due .high) z) (faultFrom (suc line) lines values) line
+  unfolding faultFrom
+  fault-first z values = refl

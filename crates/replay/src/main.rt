@@ -1,5 +1,6 @@
 // Runs the stored cases of `cases.bin` and writes one line for each, its answer.
 mod case;
+mod held;
 mod input;
 mod operation;
 mod output;

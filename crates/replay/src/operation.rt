@@ -1,4 +1,6 @@
 // The operations, each on the text and on the numbers that follow in the file, and what is written of their answers.
+use crate::held::read_values;
+use crate::held::write_values;
 use crate::input::read_count;
 use crate::input::read_number;
 use crate::input::read_numbers;
@@ -50,7 +52,7 @@ fn read(text: &[u8]) {
     show_curves(refusal, &curves);
 }
 
-fn checksum(bytes: &[u8]) -> u64 {
+pub(crate) fn checksum(bytes: &[u8]) -> u64 {
     let mut sum: u64 = 0;
     let mut i: usize = 0;
     while i < bytes.len() {
@@ -145,7 +147,7 @@ fn run_curves(fd: i32, input: &[u8]) {
 
 // The operation whose number follows in the file.
 pub(crate) fn operate(fd: i32, text: &mut [u8]) {
-    let operation = read_count(fd, 8);
+    let operation = read_count(fd, 10);
     match operation {
         0 => book(fd, text),
         1 => settle(fd),
@@ -155,6 +157,8 @@ pub(crate) fn operate(fd: i32, text: &mut [u8]) {
         5 => run_price(text),
         6 => run_curves(fd, text),
         7 => write_page(fd, text),
-        _ => run_page(text),
+        8 => run_page(text),
+        9 => read_values(fd, text),
+        _ => write_values(fd, text),
     }
 }

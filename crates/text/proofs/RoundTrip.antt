@@ -39,7 +39,7 @@ written-is-read-back A fields values before after (one-sound {field} {fields = o
 -- ---- read then write
 
 -- a text from a position on is some written bytes and the text after them
-abbrev Cut : List ℕ → ℕ → ℕ → List ℕ → Type 0
+abbrev pub Cut : List ℕ → ℕ → ℕ → List ℕ → Type 0
 Cut text at next bytes = (drop at text ≡ bytes ++ drop next text) × (next ≡ at + length bytes)
 
 cut-on : (text line bytes : List ℕ) (at mid next : ℕ) → Cut text at mid (line ++ (10 ∷ [])) → Cut text mid next bytes → Cut text at next (line ++ (10 ∷ bytes))
@@ -49,7 +49,7 @@ cut-on text line bytes at mid next first second = (
 )
 
 module _ {A : Type 0} (field : Field A) (sound : Sound field) (text : List ℕ) (at : ℕ) where
-  field-cuts : (value : A) (next : ℕ) → fieldAt field text at ≡ got value next → Cut text at next ((field .key ++ field .write value) ++ (10 ∷ []))
+  pub field-cuts : (value : A) (next : ℕ) → fieldAt field text at ≡ got value next → Cut text at next ((field .key ++ field .write value) ++ (10 ∷ []))
   field-cuts value next e =
       let read = field-read field text at e in
       let whole : List ℕ = field .key ++ read .bytes in

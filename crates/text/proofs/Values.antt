@@ -3,24 +3,36 @@ use Prim.Native.Nat.{ℕ, zero, suc, _+_}
 use mathlib.Core.Bool.{Bool, true, false, _&&_, cond}
 use mathlib.Core.List.{List, [], _∷_, _++_}
 use mathlib.Core.Option.{Option, none, some}
-use mathlib.Core.Path.{_≡_, refl, sym}
+use mathlib.Core.Path.{_≡_, refl, sym, ap}
 use lib.IntN.{ℤ}
-use lib.Signed.{leZ}
+use lib.Signed.{leZ, leZ-yes}
+use lib.Dec.{ltb}
+use lib.ListN.{length}
+use native.Mathlib.Omega.{arith}
+use borrow.Author.Tests.{ltb-true, ltb-false}
 use Rattle.text_refusal.proofs.Choices.{is-true}
 use Rattle.text_line.specs.Judged.{good}
 use Rattle.text_line.specs.Line.{OneLine}
 use Rattle.text_line.specs.Field.{Field}
 use Rattle.text_line.proofs.LineBytes.{one-line-none, EachOneLine, pieces-one-line}
 use Rattle.text_number.specs.Number.{numberOf, writtenNumber, inRange, ranged}
-use Rattle.text_number.specs.Field.{judgedNumber}
+use Rattle.text_number.specs.Field.{judgedNumber, numberField}
 use Rattle.text_number.specs.declared.Number.the-variants as number
 use Rattle.text_number.proofs.WrittenDigits.{number-of-written, written-of-number, number-line, number-some}
-use Rattle.text_word.proofs.Words.{word-written}
+use Rattle.text_word.specs.Word.{wordIn, judgedWord, writtenWord, wordField}
+use Rattle.text_word.specs.declared.Word.{Word}
+use Rattle.text_word.specs.declared.Word.the-variants as word
+use Rattle.text_word.proofs.Words.{noneEmpty, word-below, word-written, word-past, word-one-line, word-some, distinct, word-itself}
+use Rattle.text_id.specs.Id.{isId, judgedId, idField}
+use Rattle.text_id.specs.declared.Id.the-variants as id
 use Rattle.text_id.proofs.Ids.{id-is, id-bytes}
 use Rattle.text_schema.specs.Schema.{keysOf, numberFields, repeated}
+use Rattle.text_schema.specs.Checked.{refusedBy}
+use Rattle.text_schema.proofs.Checked.{NumberLines, no-lines, one-more}
 use Rattle.text_schema.proofs.Fields.{numbers-first, numbers-no-keys, repeated-none, repeated-more}
 use Rattle.text_schema.proofs.Schemas.{no-lows, no-highs}
-use Rattle.text.specs.Promises.{AllSound, none-sound, one-sound, AllFitting, none-fitting, one-fitting, NumbersAreSound, NumbersInRangeFit, WordsAreSound, WordsFit, IdsAreSound, IdsFit}
+use Rattle.text.specs.Promises.{Fitting, AllSound, none-sound, one-sound, AllFitting, none-fitting, one-fitting, FitsOrRefused, NumbersAreSound, NumbersInRangeFit, NumbersFitOrAreRefused, WordsAreSound, WordsFit, WordsFitOrAreRefused, IdsAreSound, IdsFit, IdsFitOrAreRefused}
+use Rattle.text.proofs.Checked.{AllFitOrRefused, none-fits, one-fits}
 
 -- ---- numbers
 
@@ -46,6 +58,23 @@ numbers-in-range-fit key low high z l h =
       written-read = rw (number-of-written z, is-true (leZ low z) (l .le), is-true (leZ z high) (h .le));
     }
 
+pub numbers-fit-or-are-refused : NumbersFitOrAreRefused
+numbers-fit-or-are-refused key low high z e = go (leZ low z) (leZ z high) refl refl (rw (number-of-written z) at e)
+  where
+    go : (l h : Bool) → leZ low z ≡ l → leZ z high ≡ h → refusedBy (judgedNumber (cond (l && h) (number.Value z) number.Outside)) ≡ 0 → Fitting (numberField key low high) z
+    go true true l h e = numbers-in-range-fit key low high z (leZ-yes (rw l tt)) (leZ-yes (rw h tt))
+    go true false l h e = absurd (omega arith)
+    go false h′ l h e = absurd (omega arith)
+
+-- lines of numbers
+pub number-lines-sound : {fields : List (Field ℤ)} {lows highs : List ℤ} → NumberLines fields lows highs → AllSound fields
+number-lines-sound no-lines = none-sound
+number-lines-sound (one-more {key} {low} {high} one more) = one-sound (numbers-are-sound key low high one) (number-lines-sound more)
+
+pub number-lines-fit : {fields : List (Field ℤ)} {lows highs : List ℤ} → NumberLines fields lows highs → AllFitOrRefused fields
+number-lines-fit no-lines = none-fits
+number-lines-fit (one-more {key} {low} {high} one more) = one-fits (numbers-fit-or-are-refused key low high) (number-lines-fit more)
+
 -- a schema of numbers whose keys are one line
 each-sound : (keys : List (List ℕ)) (lows highs : List ℤ) → EachOneLine keys → AllSound (numberFields keys lows highs)
 each-sound [] lows highs e = rw (numbers-no-keys lows highs) none-sound
@@ -65,6 +94,27 @@ words-are-sound key words key-line = record { key-line = key-line; read-written 
 pub words-fit : WordsFit
 words-fit key words index found line some-bytes = record { written-line = line; not-empty = some-bytes; written-read = rw found }
 
+pub words-fit-or-are-refused : WordsFitOrAreRefused
+words-fit-or-are-refused key words each index e = go (wordIn words (writtenWord words index)) refl e
+  where
+    go : (read : Word) → wordIn words (writtenWord words index) ≡ read → refusedBy (judgedWord read) ≡ 0 → Fitting (wordField key words) index
+    go (word.Index found) h e = listed (ltb index (length words)) refl
+      where
+        -- past the list no bytes are written, and no word of it is empty
+        listed : (b : Bool) → ltb index (length words) ≡ b → Fitting (wordField key words) index
+        listed true p = each index (ltb-true index (length words) p)
+        listed false p =
+            let none : writtenWord words index ≡ [] = word-past words index (ltb-false index (length words) p) in
+            let empty : writtenWord words found ≡ [] = word-written key words [] found (rw (← none, h)) in
+            let some = each found (word-below words (writtenWord words index) h) .not-empty in
+            absurd (omega (arith, ap length empty))
+    go word.Unknown h e = absurd (omega arith)
+
+-- a list that is written out: no word twice, none empty, each on one line
+pub listed-words-fit : (key : List ℕ) (words : List (List ℕ)) → distinct words ≡ true → noneEmpty words ≡ true → EachOneLine words → FitsOrRefused (wordField key words)
+listed-words-fit key words once filled lines =
+    words-fit-or-are-refused key words (λ index h. words-fit key words index (word-itself words once index h) (word-one-line words lines index) (word-some words filled index h))
+
 -- ---- ids
 
 pub ids-are-sound : IdsAreSound
@@ -72,6 +122,13 @@ ids-are-sound key key-line = record { key-line = key-line; read-written = λ byt
 
 pub ids-fit : IdsFit
 ids-fit key id e = let known = id-bytes id e in record { written-line = known .line; not-empty = known .some-bytes; written-read = rw e }
+
+pub ids-fit-or-are-refused : IdsFitOrAreRefused
+ids-fit-or-are-refused key bytes e = go (isId bytes) refl e
+  where
+    go : (b : Bool) → isId bytes ≡ b → refusedBy (judgedId bytes (cond b id.Valid id.Malformed)) ≡ 0 → Fitting (idField key) bytes
+    go true h e = ids-fit key bytes h
+    go false h e = absurd (omega arith)
 
 -- ---- schemas one after the other, and several times
 

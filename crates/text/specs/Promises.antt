@@ -16,6 +16,7 @@ use Rattle.text_word.specs.Word.{wordIn, writtenWord, wordField}
 use Rattle.text_word.specs.declared.Word.the-variants as word
 use Rattle.text_id.specs.Id.{isId, idField}
 use Rattle.text_schema.specs.Schema.{readFields, writeFields}
+use Rattle.text_schema.specs.Checked.{refusedBy}
 
 -- a kind of value whose texts are read in one way only: what is read is what is written
 pub record Sound {A : Type 0} (field : Field A) : Type 0 where
@@ -55,6 +56,21 @@ OneText =
     (A : Type 0) (fields : List (Field A)) (one other : List ℕ) → AllSound fields →
     readFields fields one 0 .end ≡ lines.Read (length one) → readFields fields other 0 .end ≡ lines.Read (length other) →
     readFields fields one 0 .values ≡ readFields fields other 0 .values → one ≡ other
+
+-- a kind of value of which each is written on a line that is read as that value, or is refused by a number: nothing else is written
+abbrev pub FitsOrRefused : {A : Type 0} → Field A → Type 0
+FitsOrRefused {A} field = (value : A) → refusedBy (field .read (field .write value)) ≡ 0 → Fitting field value
+
+abbrev pub NumbersFitOrAreRefused : Type 0
+NumbersFitOrAreRefused = (key : List ℕ) (low high : ℤ) → FitsOrRefused (numberField key low high)
+
+-- a list each of whose words fits
+abbrev pub WordsFitOrAreRefused : Type 0
+WordsFitOrAreRefused =
+    (key : List ℕ) (words : List (List ℕ)) → ((index : ℕ) → index < length words → Fitting (wordField key words) index) → FitsOrRefused (wordField key words)
+
+abbrev pub IdsFitOrAreRefused : Type 0
+IdsFitOrAreRefused = (key : List ℕ) → FitsOrRefused (idField key)
 
 -- the three kinds of value are sound: a number within its bounds, a listed word, an id
 abbrev pub NumbersAreSound : Type 0

@@ -7,7 +7,7 @@ use mathlib.Core.List.{List, [], _∷_}
 use mathlib.Core.Path.{_≡_, refl, ap, sym, _∙_}
 use lib.ListN.{length, drop, getD, drop-of-length-le}
 use lib.Seq.{drop-cons}
-use lib.Dec.{leb, ltb}
+use lib.Dec.{eqb, leb, ltb}
 use borrow.Author.Tests.{lt-ltb, le-ltb, le-leb, lt-leb, ltb-true, leb-true, ne-eqb}
 use Rattle.text_refusal.proofs.Choices.{and-left, and-right}
 use Rattle.text_line.specs.Line.{OneLine, valueAt, valueFault}
@@ -104,17 +104,29 @@ id-bytes bytes e =
       few = leb-true (length bytes) 16 (and-left (leb (length bytes) 16) (allIdBytes bytes) rest);
     }
 
+-- none of its bytes is a mark, which no id has
+abbrev pub Free : ℕ → List ℕ → Type 0
+Free mark [] = Unit
+Free mark (byte ∷ bytes) = (eqb byte mark ≡ false) × Free mark bytes
+
+all-free : (mark : ℕ) → isIdByte mark ≡ false → (bytes : List ℕ) → allIdBytes bytes ≡ true → Free mark bytes
+unfolding allIdBytes
+all-free mark none [] e = tt
+all-free mark none (byte ∷ bytes) e =
+    (ne-eqb byte mark (λ same. other (rw same at (and-left (isIdByte byte) (allIdBytes bytes) e))), all-free mark none bytes (and-right (isIdByte byte) (allIdBytes bytes) e))
+  where
+    other : isIdByte mark ≡ true → ⊥
+    other f = let z : _≡_ {A = ℕ} 0 1 = cc in omega arith
+
+pub id-free : (mark : ℕ) → isIdByte mark ≡ false → (bytes : List ℕ) → isId bytes ≡ true → Free mark bytes
+unfolding isId
+id-free mark none bytes e =
+    all-free mark none bytes
+    (and-right (leb (length bytes) 16) (allIdBytes bytes) (and-right (ltb 0 (length bytes)) (leb (length bytes) 16 && allIdBytes bytes) e))
+
 pub id-numbered : (key : List ℕ) → FieldNumbered (idField key)
 id-numbered key value = go (idIn value)
   where
     go : (found : Id) → JudgedNumbered (judgedId value found)
     go id.Valid = tt
     go id.Malformed = (omega arith, omega arith)
-
--- a valid id is not empty
-pub id-some : (value : List ℕ) → id.Valid ≡ idIn value → 0 < length value
-id-some value is = go (isId value) refl is
-  where
-    go : (b : Bool) → isId value ≡ b → id.Valid ≡ cond b id.Valid id.Malformed → 0 < length value
-    go true e is = id-bytes value e .some-bytes
-    go false e is = let z : _≡_ {A = ℕ} 0 1 = cc in absurd (omega arith)

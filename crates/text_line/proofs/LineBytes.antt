@@ -4,7 +4,7 @@ use native.Mathlib.Numerals.{add-one}
 use native.Mathlib.Omega.{arith}
 use mathlib.Core.Bool.{Bool, true, false, not, _&&_, cond}
 use mathlib.Core.List.{List, [], _∷_, _++_, append-assoc}
-use mathlib.Core.Path.{_≡_, refl, sym, ap, ap₂, _∙_}
+use mathlib.Core.Path.{_≡_, refl, sym, ap, _∙_}
 use lib.Dec.{eqb}
 use lib.ListN.{length, take, drop, length-append}
 use lib.Seq.{take-append-seam, take-at, drop-append-seam, length-take-le}
@@ -91,11 +91,6 @@ unfolding begins
 begins-own [] rest = refl
 begins-own (letter ∷ key) rest = rw (eq-eqb letter letter refl) (begins-own key rest)
 
-pub begins-self : (key : List ℕ) → begins key key ≡ true
-unfolding begins
-begins-self [] = refl
-begins-self (letter ∷ key) = rw (eq-eqb letter letter refl) (begins-self key)
-
 pub begins-cut : (key line : List ℕ) → begins key line ≡ true → line ≡ key ++ drop (length key) line
 unfolding begins
 begins-cut [] line e = refl
@@ -105,18 +100,6 @@ begins-cut (letter ∷ key) (byte ∷ line) e = go (eqb byte letter) refl (begin
     go : (b : Bool) → eqb byte letter ≡ b → (begins key line ≡ true → line ≡ key ++ drop (length key) line) → cond b (begins key line) false ≡ true → byte ∷ line ≡ letter ∷ (key ++ drop (length key) line)
     go true h again e = rw (eqb-true byte letter h) (ap (λ (bytes : List ℕ). letter ∷ bytes) (again e))
     go false h again e = cc
-
--- what begins with some bytes and is as long is those bytes
-pub begins-whole : (key line : List ℕ) → begins key line ≡ true → length key ≡ length line → key ≡ line
-unfolding begins
-begins-whole [] [] b e = refl
-begins-whole [] (byte ∷ line) b e = absurd (omega arith)
-begins-whole (letter ∷ key) [] b e = absurd (omega arith)
-begins-whole (letter ∷ key) (byte ∷ line) b e = go (eqb byte letter) refl b (λ t. begins-whole key line t (omega arith))
-  where
-    go : (same : Bool) → eqb byte letter ≡ same → cond same (begins key line) false ≡ true → (begins key line ≡ true → key ≡ line) → (letter ∷ key) ≡ (byte ∷ line)
-    go true p b whole = ap₂ _∷_ (sym (eqb-true byte letter p)) (whole b)
-    go false p b whole = cc
 
 -- ---- a line as it is written and as it is read
 

@@ -1,10 +1,10 @@
 -- Laws on the fields of a schema: a schema that is written out, as code hands it over, lines that stand several times, and the numbers of refusals.
-use Prim.Native.Nat.{ℕ, zero, suc, _+_, _*_}
+use Prim.Native.Nat.{ℕ, zero, suc, _+_, _*_, _≤_}
 use native.Mathlib.Omega.{arith}
 use mathlib.Core.Bool.{Bool, true, false, cond}
 use mathlib.Core.List.{List, [], _∷_, _++_, append-nil}
 use mathlib.Core.Path.{_≡_, refl, sym, ap, subst, _∙_}
-use lib.Dec.{eqb, ltb}
+use lib.Dec.{ltb}
 use lib.IntN.{ℤ, pos}
 use lib.ListN.{length, take, replicate, length-append, length-replicate, drop-of-length-le}
 use Rattle.text_refusal.specs.Refusal.{fault}
@@ -30,6 +30,21 @@ numbers-first key keys low lows high highs = refl
 pub numbers-no-keys : (lows highs : List ℤ) → numberFields [] lows highs ≡ []
 unfolding numberFields
 numbers-no-keys lows highs = refl
+
+-- no more lines than keys, and than bounds of either kind
+pub record NumbersFew (keys : List (List ℕ)) (lows highs : List ℤ) : Type 0 where
+  pub by-keys : length (numberFields keys lows highs) ≤ length keys
+  pub by-lows : length (numberFields keys lows highs) ≤ length lows
+  pub by-highs : length (numberFields keys lows highs) ≤ length highs
+
+pub numbers-few : (keys : List (List ℕ)) (lows highs : List ℤ) → NumbersFew keys lows highs
+unfolding numberFields
+numbers-few [] lows highs = record { by-keys = omega arith; by-lows = omega arith; by-highs = omega arith }
+numbers-few (key ∷ keys) [] highs = record { by-keys = omega arith; by-lows = omega arith; by-highs = omega arith }
+numbers-few (key ∷ keys) (low ∷ lows) [] = record { by-keys = omega arith; by-lows = omega arith; by-highs = omega arith }
+numbers-few (key ∷ keys) (low ∷ lows) (high ∷ highs) =
+    let rest = numbers-few keys lows highs in
+    record { by-keys = omega (arith, rest .by-keys); by-lows = omega (arith, rest .by-lows); by-highs = omega (arith, rest .by-highs) }
 
 -- ---- a schema that is written out: its fields computed
 
@@ -73,6 +88,11 @@ pub record Schema (fields : List (Field ℤ)) : Type 0 where
 -- for a schema that is written out, the last argument is refl
 abbrev pub schema-of : {fields : List (Field ℤ)} (keys : List ℕ) (lows highs : List ℤ) → take (length (places fields)) (schemaFields keys lows highs) ≡ fields → Schema fields
 schema-of {fields} keys lows highs e = record { keys = keys; lows = lows; highs = highs; same = placed-computed keys lows highs (places fields) ∙ e }
+
+-- the keys of a schema as code hands them to a writer, no more of them than lines
+pub record Keys {fields : List (Field ℤ)} (schema : Schema fields) (keys : List ℕ) : Type 0 where
+  pub are : schema .keys ≡ keys
+  pub few : length (keysOf keys) ≤ length fields
 
 module _
     {fields : List (Field ℤ)} (schema : Schema fields) (text : List ℕ) (at : ℕ) {after : List ℤ} {ended : Lines}

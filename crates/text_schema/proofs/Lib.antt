@@ -4,3 +4,4 @@ pub mod Readings
 pub mod Moved
 pub mod Fields
 pub mod Written
+pub mod Checked

@@ -1,2 +1,3 @@
 -- Lines by a schema.
 pub mod Schema
+pub mod Checked

@@ -1,5 +1,6 @@
 -- Laws on words: a value against one word, one byte on and at the end; against the words of a list, one after the other; and a line that holds a word.
-use Prim.Native.Nat.{ℕ, suc, _+_, _≤_, _<_}
+use Prim.Native.Nat.{ℕ, zero, suc, _+_, _≤_, _<_}
+use native.Mathlib.Nat.{add-zero, zero-add}
 use native.Mathlib.Numerals.{add-one}
 use native.Mathlib.Omega.{arith}
 use mathlib.Core.Bool.{Bool, true, false, cond}
@@ -10,10 +11,11 @@ use lib.ListN.{length, drop, getD, drop-of-length-le}
 use lib.Seq.{drop-cons}
 use borrow.Author.Tests.{eq-eqb, ne-eqb, eqb-true}
 use Rattle.text_line.specs.Judged.{good}
-use Rattle.text_line.specs.Line.{valueAt, valueFault}
+use Rattle.text_line.specs.Line.{OneLine, valueAt, valueFault}
 use Rattle.text_line.specs.Field.{got, refused, nextAt, fieldAt}
 use Rattle.text_line.proofs.Fields.{NoneEmpty, field-got, field-within, field-refused}
 use Rattle.text_line.proofs.FieldTexts.{JudgedNumbered, FieldNumbered}
+use Rattle.text_line.proofs.LineBytes.{one-line-none, EachOneLine}
 use Rattle.text_word.specs.Word.{sameBytes, wordAmong, wordIn, judgedWord, writtenWord, wordField}
 use Rattle.text_word.specs.declared.Word.{Word}
 use Rattle.text_word.specs.declared.Word.the-variants as word
@@ -105,7 +107,7 @@ noneEmpty [] = true
 noneEmpty ([] ∷ words) = false
 noneEmpty ((byte ∷ known) ∷ words) = noneEmpty words
 
-empty-unknown : (index : ℕ) (words : List (List ℕ)) → noneEmpty words ≡ true → wordAmong index words [] ≡ word.Unknown
+pub empty-unknown : (index : ℕ) (words : List (List ℕ)) → noneEmpty words ≡ true → wordAmong index words [] ≡ word.Unknown
 unfolding wordAmong sameBytes
 empty-unknown index [] e = refl
 empty-unknown index ([] ∷ words) e = cc
@@ -173,3 +175,89 @@ word-written key words bytes index e = go (wordIn words bytes) refl e
         let here : at .0 ≡ index = (let fact : 0 + at .0 ≡ found = at .1 in omega arith) in
         rw (← here) (at .2)
     go word.Unknown h e = cc
+
+-- past the last word no bytes are written
+pub word-past : (words : List (List ℕ)) (index : ℕ) → length words ≤ index → writtenWord words index ≡ []
+unfolding writtenWord
+word-past [] index h = refl
+word-past (known ∷ words) zero h = absurd (omega arith)
+word-past (known ∷ words) (suc index) h = word-past words index (omega arith)
+
+-- the words of a list that is written out, computed
+abbrev pub listedWord : List (List ℕ) → ℕ → List ℕ
+listedWord [] index = []
+listedWord (known ∷ words) zero = known
+listedWord (known ∷ words) (suc index) = listedWord words index
+
+pub written-listed : (words : List (List ℕ)) (index : ℕ) → writtenWord words index ≡ listedWord words index
+unfolding writtenWord
+written-listed [] index = refl
+written-listed (known ∷ words) zero = refl
+written-listed (known ∷ words) (suc index) = written-listed words index
+
+pub word-one-line : (words : List (List ℕ)) → EachOneLine words → (index : ℕ) → OneLine (writtenWord words index)
+unfolding writtenWord
+word-one-line [] each index = one-line-none
+word-one-line (known ∷ words) each zero = each .0
+word-one-line (known ∷ words) each (suc index) = word-one-line words (each .1) index
+
+pub word-some : (words : List (List ℕ)) → noneEmpty words ≡ true → (index : ℕ) → index < length words → 0 < length (writtenWord words index)
+unfolding writtenWord
+word-some [] e index h = absurd (omega arith)
+word-some ([] ∷ words) e index h = let z : _≡_ {A = ℕ} 0 1 = cc in absurd (omega arith)
+word-some ((byte ∷ known) ∷ words) e zero h = omega arith
+word-some ((byte ∷ known) ∷ words) e (suc index) h = word-some words e index (omega arith)
+
+-- ---- a list with no word twice, as a computed test: each word is found at its own index
+
+abbrev sameComputed : List ℕ → List ℕ → Bool
+sameComputed [] [] = true
+sameComputed [] (byte ∷ others) = false
+sameComputed (byte ∷ bytes) [] = false
+sameComputed (byte ∷ bytes) (other ∷ others) = cond (eqb byte other) (sameComputed bytes others) false
+
+same-computed : (bytes others : List ℕ) → sameBytes bytes others ≡ sameComputed bytes others
+unfolding sameBytes
+same-computed [] [] = refl
+same-computed [] (byte ∷ others) = refl
+same-computed (byte ∷ bytes) [] = refl
+same-computed (byte ∷ bytes) (other ∷ others) = rw (same-computed bytes others)
+
+-- no word of the list is these bytes
+abbrev apart : List ℕ → List (List ℕ) → Bool
+apart known [] = true
+apart known (other ∷ words) = cond (sameComputed other known) false (apart known words)
+
+abbrev pub distinct : List (List ℕ) → Bool
+distinct [] = true
+distinct (known ∷ words) = cond (apart known words) (distinct words) false
+
+apart-other : (known : List ℕ) (words : List (List ℕ)) → apart known words ≡ true → (index : ℕ) → index < length words → sameBytes (writtenWord words index) known ≡ false
+unfolding writtenWord
+apart-other known [] e index h = absurd (omega arith)
+apart-other known (other ∷ words) e zero h = same-computed other known ∙ go (sameComputed other known) e
+  where
+    go : (b : Bool) → cond b false (apart known words) ≡ true → b ≡ false
+    go true e = cc
+    go false e = refl
+apart-other known (other ∷ words) e (suc index) h = apart-other known words (go (sameComputed other known) e) index (omega arith)
+  where
+    go : (b : Bool) → cond b false (apart known words) ≡ true → apart known words ≡ true
+    go true e = cc
+    go false e = e
+
+among-itself : (words : List (List ℕ)) (base : ℕ) → distinct words ≡ true → (index : ℕ) → index < length words → wordAmong base words (writtenWord words index) ≡ word.Index (base + index)
+unfolding wordAmong writtenWord
+among-itself [] base e index h = absurd (omega arith)
+among-itself (known ∷ words) base e zero h = rw (same-self known, add-zero base)
+among-itself (known ∷ words) base e (suc index) h =
+    let both = split (apart known words) e in
+    let place : base + suc index ≡ suc base + index = omega arith in
+    rw (apart-other known words (both .0) index (omega arith), place) (among-itself words (suc base) (both .1) index (omega arith))
+  where
+    split : (b : Bool) → cond b (distinct words) false ≡ true → (b ≡ true) × (distinct words ≡ true)
+    split true e = (refl, e)
+    split false e = let z : _≡_ {A = ℕ} 0 1 = cc in absurd (omega arith)
+
+pub word-itself : (words : List (List ℕ)) → distinct words ≡ true → (index : ℕ) → index < length words → wordIn words (writtenWord words index) ≡ word.Index index
+word-itself words e index h = among-itself words 0 e index h ∙ ap word.Index (zero-add index)

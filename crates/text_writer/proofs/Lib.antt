@@ -3,4 +3,5 @@ pub mod Laid
 pub mod Writing
 pub mod Refused
 pub mod BySchema
+pub mod ShortLines
 pub mod Rows

@@ -136,16 +136,28 @@ number-whole text {buffer} {after} {start} {end} {first} laid e =
 pub line-length : (key : List ℕ) (z : ℤ) → length (writtenLine key z) ≡ length key + length (writtenNumber z) + 1
 line-length key z = length-append (key ++ writtenNumber z) (10 ∷ []) ∙ ap (λ (n : ℕ). n + 1) (length-append key (writtenNumber z))
 
+-- a line of text
+pub text-line-length : (key text : List ℕ) → length (key ++ (text ++ (10 ∷ []))) ≡ length key + length text + 1
+text-line-length key text = omega (arith, length-append key (text ++ (10 ∷ [])), length-append text (10 ∷ []))
+
 -- by the number's sign and magnitude
 pub line-signed : (key : List ℕ) (z : ℤ) (negative : Bool) → ltZ z (pos 0) ≡ negative → writtenLine key z ≡ signedLine key negative (natAbs z)
 line-signed key z negative e = rw (written-signed z negative e) (simp append-assoc)
 
 -- ---- lines one after the other
 
+pub no-keys : (values : List ℤ) → writtenNumbers [] values ≡ []
+unfolding writtenNumbers
+no-keys values = refl
+
 no-values : (keys : List (List ℕ)) → writtenNumbers keys [] ≡ []
 unfolding writtenNumbers
 no-values [] = refl
 no-values (key ∷ keys) = refl
+
+pub first-line : (key : List ℕ) (keys : List (List ℕ)) (z : ℤ) (values : List ℤ) → writtenNumbers (key ∷ keys) (z ∷ values) ≡ writtenLine key z ++ writtenNumbers keys values
+unfolding writtenNumbers
+first-line key keys z values = refl
 
 -- the text of the lines passed, and what the rest of the keys and values adds to it
 pub record Passed (keys : List ℕ) (values : List ℤ) (from i : ℕ) : Type 0 where

@@ -1,4 +1,5 @@
 // Writing into a lent buffer: the length is known before a byte is written, and bytes after the text stay.
+ghost use mathlib.Core.Bool.{true};
 ghost use mathlib.Core.Path.{_≡_};
 ghost use Prim.Native.Nat.{_≤_, _+_, _-_};
 ghost use lib.Dec.{leb};
@@ -11,6 +12,7 @@ use integer::magnitude;
 use text_line::piece::part;
 use text_line::piece::piece_end;
 
+pub mod line;
 pub mod output;
 pub mod row;
 
@@ -20,20 +22,20 @@ pub enum Written {
     Short,
 }
 
-// How many digits a number has.
+// How many digits a number has, four at a time: most numbers need one division or none, and no test that is hard to foresee.
 fn digit_count(mut n: u64) -> usize
     ensures { λ r. ⌜ r ≡ length (digitsOf n) ⌝ }
 {
-    let mut count: usize = 1;
-    while 10 <= n {
-        n = n / 10;
-        count += 1;
+    let mut count: usize = 0;
+    while 10000 <= n {
+        n = n / 10000;
+        count += 4;
     }
-    count
+    count + 1 + (10 <= n) as usize + (100 <= n) as usize + (1000 <= n) as usize
 }
 
 // How many bytes a number has as it is written.
-fn number_length(z: i64) -> usize
+pub fn number_length(z: i64) -> usize
     ensures { λ r. ⌜ r ≡ length (writtenNumber z) ⌝ }
 {
     digit_count(magnitude(z)) + (z < 0) as usize
@@ -97,8 +99,28 @@ fn put_line(buffer: &mut [u8], at: usize, key: &[u8], negative: bool, n: u64) ->
     end + 1
 }
 
-// Whether the text of the lines is no longer than the room for it, which is known before a byte is written.
-fn lines_fit(keys: &[u8], values: &[i64], mut room: usize) -> bool
+// Whether short numbers are sure to fit: none has more than seven digits, and there is room for as many. No digit is counted.
+fn short_lines_fit(keys: &[u8], values: &[i64], room: usize) -> bool
+    ensures { λ r. ⌜ (r ≡ true → length (writtenNumbers (keysOf (now (keys .entry))) (now (values .entry))) ≤ room) ⌝ }
+{
+    if room < keys.len() {
+        return false;
+    }
+    if (room - keys.len()) / 9 < values.len() {
+        return false;
+    }
+    let mut i: usize = 0;
+    while i < values.len() {
+        if 10000000 <= magnitude(values[i]) {
+            return false;
+        }
+        i += 1;
+    }
+    true
+}
+
+// Whether the text of the lines is no longer than the room for it, by the digits of each number.
+fn counted_lines_fit(keys: &[u8], values: &[i64], mut room: usize) -> bool
     ensures { λ r. ⌜ r ≡ leb (length (writtenNumbers (keysOf (now (keys .entry))) (now (values .entry)))) room ⌝ }
 {
     let mut from: usize = 0;
@@ -117,6 +139,16 @@ fn lines_fit(keys: &[u8], values: &[i64], mut room: usize) -> bool
         i += 1;
     }
     true
+}
+
+// Whether the text of the lines is no longer than the room for it, which is known before a byte is written.
+fn lines_fit(keys: &[u8], values: &[i64], room: usize) -> bool
+    ensures { λ r. ⌜ r ≡ leb (length (writtenNumbers (keysOf (now (keys .entry))) (now (values .entry)))) room ⌝ }
+{
+    if short_lines_fit(keys, values, room) {
+        return true;
+    }
+    counted_lines_fit(keys, values, room)
 }
 
 // The lines, which the buffer has room for; where the next line starts.

@@ -1,27 +1,13 @@
 // What a program prints for a refusal.
-ghost use mathlib.Core.Path.{_≡_};
-ghost use Prim.Native.Nat.{_≤_, _+_};
-ghost use mathlib.Core.List.{[], _∷_, _++_};
+ghost use Prim.Native.Nat.{_≤_};
 ghost use lib.ListN.{length};
-ghost use Rattle.text_refusal.specs.Bytes.{bytes};
 ghost use Rattle.text_writer.specs.Output.{refusalLines};
 ghost use Rattle.text_writer.specs.Write.{TextLaid, TextWritten};
 use crate::Written;
 use crate::digit_count;
-use crate::put_bytes;
+use crate::line::put_text_line;
 use crate::put_line;
 use text_refusal::refusal::Refusal;
-
-// The line with the name of the refused text; where the next line starts.
-fn put_name(buffer: &mut [u8], at: usize, name: &[u8]) -> usize
-    requires { ⌜ at + length (bytes "text=" ++ (now name ++ (10 ∷ []))) ≤ length (now buffer) ⌝ }
-    ensures { λ r. ⌜ TextLaid (bytes "text=" ++ (now (name .entry) ++ (10 ∷ []))) (now (buffer .entry)) at (now (buffer .exit)) r ⌝ }
-{
-    let start = put_bytes(buffer, at, b"text=");
-    let end = put_bytes(buffer, start, name);
-    buffer[end] = 10;
-    end + 1
-}
 
 // The lines of a refusal at the start of a buffer that has room for them; where the next line starts.
 fn put_refusal(buffer: &mut [u8], number: u64, line: u64, name: &[u8]) -> usize
@@ -30,7 +16,7 @@ fn put_refusal(buffer: &mut [u8], number: u64, line: u64, name: &[u8]) -> usize
 {
     let second = put_line(buffer, 0, b"refused=", false, number);
     let third = put_line(buffer, second, b"line=", false, line);
-    put_name(buffer, third, name)
+    put_text_line(buffer, third, b"text=", name)
 }
 
 // The lines of a refusal at the start of a lent buffer, with the name of the refused text.

@@ -16,7 +16,7 @@ magnitude-requires : tie.Need-magnitude-requires
 magnitude-requires c κs = tt
 
 resources-in-requires : tie.Need-resources-in-requires
-resources-in-requires c κs = (c .before .before .before .pre .0, rw (counted c) (c .before .before .before .pre .1))
+resources-in-requires c κs = rw (counted c) (c .before .before .before .pre)
 
 enum-known-r : tie.Need-enum-known-r
 enum-known-r c = c .match .keys1

@@ -28,8 +28,7 @@ after-header-requires : tie.Need-after-header-requires
 after-header-requires c κs =
     let read = c .before .before .before .before .header-at .ensures in
     let is = c .before .before .b2 .given .1 in
-    let short = c .before .before .before .before .before .before .if1 .left in
-    (short, count-few (c .before .before .before .before .before .before .before .before .args .text .now) short (read .0) is (read .1 (c .before .before .b2 .given .0 .0) is) (c .header-of .ensures))
+    count-few (c .before .before .before .before .before .before .before .before .args .text .now) (c .before .before .before .before .before .before .if1 .left) (read .0) is (read .1 (c .before .before .b2 .given .0 .0) is) (c .header-of .ensures)
 
 returns-3 : tie.Need-returns-3
 returns-3 c =

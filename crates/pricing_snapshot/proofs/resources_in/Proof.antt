@@ -1,6 +1,6 @@
 use mathlib.Core.Path.{refl}
 use lib.Dec.{lit≤}
-use Rattle.pricing_snapshot.proofs.Buckets.{table-none, room}
+use Rattle.text_id_table.proofs.Table.{table-none, room}
 use Rattle.pricing_snapshot.proofs.resources_in.Statement.{statement}
 use Rattle.pricing_snapshot.proofs.resources_in.Tie as tie
 
@@ -10,8 +10,8 @@ slice-aggregate-resources-at c = refl
 resources-at-requires : tie.Need-resources-at-requires
 resources-at-requires c κs =
     let start = c .before .before .before in (
-      table-none (start .args .text .now) 192 (lit≤ tt),
-      room (start .args .text .now) (start .args .count) 64 192 (start .pre .0) (c .before .if1 .taken) (lit≤ tt) (lit≤ tt),
+      table-none 10 (start .args .text .now) 192 (lit≤ tt),
+      room (start .args .count) 64 192 (c .before .if1 .taken) (lit≤ tt) (lit≤ tt),
     )
 
 returns : tie.Need-returns
@@ -23,8 +23,8 @@ slice-aggregate-resources-at-2 c = refl
 resources-at-requires-2 : tie.Need-resources-at-requires-2
 resources-at-requires-2 c κs =
     let start = c .before .before .before in (
-      table-none (start .args .text .now) 12288 (lit≤ tt),
-      room (start .args .text .now) (start .args .count) 4096 12288 (start .pre .0) (start .pre .1) (lit≤ tt) (lit≤ tt),
+      table-none 10 (start .args .text .now) 12288 (lit≤ tt),
+      room (start .args .count) 4096 12288 (start .pre) (lit≤ tt) (lit≤ tt),
     )
 
 returns-2 : tie.Need-returns-2

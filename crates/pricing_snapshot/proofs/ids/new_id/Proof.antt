@@ -1,14 +1,13 @@
 -- The id's line by the laws of a line that holds an id; its slot tells whether it stands above, and is filled where it does not.
-use Prim.Native.Nat.{ℕ, _+_, _≤_, _<_}
+use Prim.Native.Nat.{_+_, _≤_, _<_}
 use native.Mathlib.Omega.{arith}
-use mathlib.Core.List.{List}
 use mathlib.Core.Path.{_≡_, refl}
 use lib.ListN.{length, length-set}
 use Rattle.text_refusal.specs.Bytes.{bytes}
 use Rattle.text_line.specs.Field.{nextAt}
 use Rattle.text_id.specs.declared.Id.the-variants as id
 use Rattle.text_id.proofs.Ids.{id-within}
-use Rattle.pricing_snapshot.specs.internal.Ids.{SlotOf}
+use Rattle.text_id_table.proofs.Table.{slot-within}
 use Rattle.pricing_snapshot.proofs.Taken.{taken-refused, taken-repeated, taken-new}
 use Rattle.pricing_snapshot.proofs.ids.new_id.Statement.{statement}
 use Rattle.pricing_snapshot.proofs.ids.new_id.Tie as tie
@@ -53,10 +52,12 @@ valid : (c : tie.After-slot-of) → known c .id-of .result ≡ id.Valid
 valid c = c .before .before .enum-told .given .1
 
 slot-of-requires : tie.Need-slot-of-requires
-slot-of-requires c κs = begun (c .before .before .before) .pre
+slot-of-requires c κs = tt
 
 within : (c : tie.After-slot-of) → c .slot-of .result < length (begun (known c) .args .starts .now)
-within c = c .slot-of .ensures .before .within
+within c =
+    let start = begun (known c) in
+    slot-within (start .pre .table) (start .pre .one) (known c .before .line-value .result .now) (c .slot-of .ensures)
 
 -- the line after the id starts within the text
 line-within : (c : tie.After-slot-of) → let a = begun (known c) .args in
@@ -81,7 +82,7 @@ returns-2 c =
     taken-repeated (a .text .now) (a .at) (known at-slot .before .line-value .ensures) (known at-slot .id-of .ensures) (valid at-slot) (at-slot .slot-of .ensures) (c .if1 .taken)
 
 add-starts : tie.Need-add-starts
-add-starts c = let at-slot = c .before .before in omega (arith, line-within at-slot, begun (known at-slot) .pre .short)
+add-starts c = let at-slot = c .before .before in omega (arith, line-within at-slot)
 
 mul-starts : tie.Need-mul-starts
 mul-starts c = omega (arith, within (c .before .before))
@@ -90,16 +91,16 @@ slice-write-starts : tie.Need-slice-write-starts
 slice-write-starts c = within (c .before .before)
 
 add-t16 : tie.Need-add-t16
-add-t16 c = let at-slot = c .before .before in omega (arith, line-within at-slot, begun (known at-slot) .pre .short)
+add-t16 c = let at-slot = c .before .before in omega (arith, line-within at-slot)
 
 add-t22 : tie.Need-add-t22
-add-t22 c = let at-slot = c .before .before in omega (arith, line-within at-slot, begun (known at-slot) .pre .short)
+add-t22 c = let at-slot = c .before .before in omega (arith, line-within at-slot)
 
 add-t23 : tie.Need-add-t23
-add-t23 c = let at-slot = c .before .before in omega (arith, line-within at-slot, begun (known at-slot) .pre .short)
+add-t23 c = let at-slot = c .before .before in omega (arith, line-within at-slot)
 
 same-length-2 : tie.Need-same-length-2
-same-length-2 c = let at-slot = c .before .before in let a = begun (known at-slot) .args in length-set (a .starts .now) (at-slot .slot-of .result) (a .at + 3)
+same-length-2 c = let at-slot = c .before .before in let a = begun (known at-slot) .args in length-set (a .starts .now) (at-slot .slot-of .result) (a .at + 4)
 
 returns-3 : tie.Need-returns-3
 returns-3 c =

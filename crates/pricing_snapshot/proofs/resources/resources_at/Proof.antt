@@ -3,7 +3,7 @@ use native.Mathlib.Omega.{arith}
 use mathlib.Core.Path.{_∙_}
 use mir.Syntax.{w64}
 use mir.Val.{Fits}
-use Rattle.pricing_snapshot.proofs.Summing.{Summing, summing-start, summing-slots, summing-within, summing-stop, summing-next, summing-over}
+use Rattle.pricing_snapshot.proofs.Summing.{Summing, summing-start, summing-room, summing-within, summing-stop, summing-next, summing-over}
 use Rattle.pricing_snapshot.proofs.resources.resources_at.Statement.{statement}
 use Rattle.pricing_snapshot.proofs.resources.resources_at.Tie as tie
 
@@ -17,7 +17,7 @@ loop-holds : tie.Need-loop-holds Inv-loop μ-loop
 loop-holds c = let start = c .before .before in summing-start (start .args .text .now) (start .args .at) (start .args .count) (start .pre .0) (start .pre .1)
 
 new-id-requires : tie.Need-new-id-requires Inv-loop μ-loop
-new-id-requires c κs = let turn = c .before in summing-slots (turn .before .loop .inv) (turn .loop-test .taken)
+new-id-requires c κs = let turn = c .before in summing-room (turn .before .loop .inv) (turn .loop-test .taken)
 
 with-resource-requires : tie.Need-with-resource-requires Inv-loop μ-loop
 with-resource-requires c κs = let turn = c .before .before .before .before in summing-within (turn .before .loop .inv) (turn .loop-test .taken)

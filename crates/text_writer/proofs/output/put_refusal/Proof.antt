@@ -36,31 +36,34 @@ put-line-requires-2 c κs =
     let one = c .before .before .before .before in
     omega (arith, fits (one .before .before .before .before .before), one .put-line .ensures .ends, one .put-line .kept .0)
 
-put-name-requires : tie.Need-put-name-requires
-put-name-requires c κs =
-    let two = c .before .before .before in
+slice-aggregate-put-text-line : tie.Need-slice-aggregate-put-text-line
+slice-aggregate-put-text-line c = search needs
+
+put-text-line-requires : tie.Need-put-text-line-requires
+put-text-line-requires c κs =
+    let two = c .before .before .before .before in
     let one = two .before .before .before .before .before in
     omega (arith, fits (one .before .before .before .before .before), one .put-line .ensures .ends, one .put-line .kept .0, two .put-line2 .ensures .ends, two .put-line2 .kept .0)
 
 same-length : tie.Need-same-length
 same-length c =
     let three = c .before .before in
-    let two = three .before .before .before .before in
+    let two = three .before .before .before .before .before in
     let one = two .before .before .before .before .before in
-    three .put-name .kept .0 ∙ two .put-line2 .kept .0 ∙ one .put-line .kept .0
+    three .put-text-line .kept .0 ∙ two .put-line2 .kept .0 ∙ one .put-line .kept .0
 
 returns : tie.Need-returns
 returns c =
     let three = c .before .before in
-    let two = three .before .before .before .before in
+    let two = three .before .before .before .before .before in
     let one = two .before .before .before .before .before in
     let start = one .before .before .before .before .before in
     rw (refusal-signed (record { number = start .args .number; line = start .args .line }) (now (start .args .name)))
     (laid-both (one .put-line .ensures)
-    (laid-both (two .put-line2 .ensures) (three .put-name .ensures) (omega (arith, fits start, one .put-line .ensures .ends, one .put-line .kept .0)))
+    (laid-both (two .put-line2 .ensures) (three .put-text-line .ensures) (omega (arith, fits start, one .put-line .ensures .ends, one .put-line .kept .0)))
     (omega (arith, fits start)))
 
 pub put-refusal-spec : {M : Type 1} → statement M
 put-refusal-spec =
     tie.close
-    (tie.spec slice-aggregate-put-line put-line-requires slice-aggregate-put-line-2 put-line-requires-2 put-name-requires same-length returns)
+    (tie.spec slice-aggregate-put-line put-line-requires slice-aggregate-put-line-2 put-line-requires-2 slice-aggregate-put-text-line put-text-line-requires same-length returns)
