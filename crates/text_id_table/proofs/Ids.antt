@@ -1,5 +1,6 @@
--- Laws on ids among others: the id that starts at a position, byte by byte; in a text; and whether an id stands above.
+-- Laws on ids among others: the bytes before a mark, one after the other; the id that starts at a position; in a text; and whether an id stands above.
 use Prim.Native.Nat.{ℕ, zero, suc, _+_, _-_, _≤_, _<_}
+use native.Mathlib.Numerals.{add-one}
 use native.Mathlib.Omega.{arith}
 use mathlib.Core.Path.{_≡_, refl, ap, sym, _∙_}
 use mathlib.Core.Bool.{Bool, true, false, _||_, cond}
@@ -7,89 +8,61 @@ use mathlib.Core.List.{List, [], _∷_, _++_, append-assoc, append-nil}
 use borrow.Author.Tests.{eq-eqb, ne-eqb}
 use lib.Dec.{eqb}
 use lib.ListN.{length, take, drop, getD, length-take, length-drop, drop-of-length-le}
-use lib.Seq.{take-suc, drop-cons, append-snoc, take-nil, getD-drop, drop-drop, drop-append-seam}
+use lib.Seq.{take-suc, take-all, drop-cons, append-snoc, drop-drop, drop-append-seam}
 use Rattle.text_line.specs.Judged.{Judged, good, bad}
 use Rattle.text_line.specs.Line.{lineIn, valueOrNone, valueAt}
 use Rattle.text_line.specs.Piece.{part}
 use Rattle.text_line.proofs.LineBytes.{line-read}
-use Rattle.text_line.proofs.Parts.{part-rest}
+use Rattle.text_line.proofs.Parts.{part-whole}
 use Rattle.text_word.specs.Word.{sameBytes}
 use Rattle.text_id.specs.Id.{isIdByte, isId}
 use Rattle.text_id.proofs.Ids.{id-bytes, Free, id-free}
 use Rattle.text_id_table.specs.Ids.{before, idAt, standsIn}
 
--- ---- the id that starts at a position, byte by byte
+-- ---- the bytes before a mark, one after the other
 
--- the first bytes as they stand, and what is left of the 16 up to a mark
-abbrev frontOf : ℕ → List ℕ → ℕ → List ℕ
-frontOf mark bytes n = take n bytes ++ before mark (take (16 - n) (drop n bytes))
+-- those up to a position as they stand, and what is left of the bytes up to a mark
+pub record BeforeFrom (mark : ℕ) (bytes : List ℕ) (end : ℕ) : Type 0 where
+  pub rest : before mark bytes ≡ take end bytes ++ before mark (drop end bytes)
 
-module _ (mark : ℕ) (bytes : List ℕ) (n : ℕ) where
-  front-ended : before mark (take (16 - n) (drop n bytes)) ≡ [] → take n bytes ≡ frontOf mark bytes n
-  front-ended none = rw (none, append-nil)
+abbrev pub before-start : (mark : ℕ) (bytes : List ℕ) → BeforeFrom mark bytes 0
+before-start mark bytes = record { rest = refl }
 
-  front-more : n < 16 → n < length bytes → (getD bytes n 0 ≡ mark → ⊥) → frontOf mark bytes n ≡ frontOf mark bytes (suc n)
+module _ {mark : ℕ} {bytes : List ℕ} {end : ℕ} (from : BeforeFrom mark bytes end) where
+  pub before-over : length bytes ≤ end → bytes ≡ before mark bytes
   unfolding before
-  front-more few within other =
-      let left : 16 - n ≡ suc (16 - suc n) = omega arith in
-      rw (left, drop-cons bytes n 0 within, ne-eqb (getD bytes n 0) mark other, take-suc bytes n 0 within)
-      (sym (append-snoc (take n bytes) (getD bytes n 0) (before mark (take (16 - suc n) (drop (suc n) bytes)))))
+  before-over h = sym (from .rest ∙ rw (drop-of-length-le bytes {i = end} h, take-all end bytes h) (append-nil bytes))
 
--- the id, whose bytes up to a position are known
-pub record IdUpTo (mark : ℕ) (bytes : List ℕ) (start end : ℕ) : Type 0 where
-  pub behind : start ≤ end
-  pub within : end ≤ length bytes
-  pub few : end - start ≤ 16
-  pub rest : idAt mark bytes start ≡ frontOf mark (drop start bytes) (end - start)
+  module _ (within : end < length bytes) where
+    pub before-marked : getD bytes end 0 ≡ mark → take end bytes ≡ before mark bytes
+    unfolding before
+    before-marked e = sym (from .rest ∙ rw (drop-cons bytes end 0 within, eq-eqb (getD bytes end 0) mark e) (append-nil (take end bytes)))
+
+    pub before-more : (getD bytes end 0 ≡ mark → ⊥) → BeforeFrom mark bytes (end + 1)
+    unfolding before
+    before-more other =
+        record {
+          rest =
+              from .rest ∙
+              rw (add-one end, drop-cons bytes end 0 within, ne-eqb (getD bytes end 0) mark other, take-suc bytes end 0 within)
+              (sym (append-snoc (take end bytes) (getD bytes end 0) (before mark (drop (suc end) bytes))));
+        }
+
+-- ---- the id that starts at a position
 
 module _ (mark : ℕ) (bytes : List ℕ) (start : ℕ) where
   pub id-at-none : length bytes ≤ start → [] ≡ idAt mark bytes start
   unfolding idAt before
   id-at-none h = rw (drop-of-length-le bytes {i = start} h)
 
-  pub id-at-start : start < length bytes → IdUpTo mark bytes start start
+  -- fewer than 16 bytes are left
+  pub id-at-last : length bytes - start < 16 → before mark (part bytes start (length bytes)) ≡ idAt mark bytes start
   unfolding idAt
-  id-at-start h = let none : start - start ≡ 0 = omega arith in record { behind = omega arith; within = omega arith; few = omega arith; rest = rw none }
+  id-at-last few = ap (before mark) (part-whole bytes start ∙ sym (take-all 16 (drop start bytes) (omega (arith, length-drop start bytes))))
 
-module _ {mark : ℕ} {bytes : List ℕ} {start end : ℕ} (from : IdUpTo mark bytes start end) where
-  pub id-at-full : end - start ≡ 16 → part bytes start end ≡ idAt mark bytes start
-  unfolding before
-  id-at-full full =
-      let left : 16 - (end - start) ≡ 0 = omega arith in
-      front-ended mark (drop start bytes) (end - start) (rw left) ∙ sym (from .rest)
-
-  rest-is : drop (end - start) (drop start bytes) ≡ drop end bytes
-  rest-is = let there : start + (end - start) ≡ end = omega (arith, from .behind) in rw (drop-drop (end - start) start bytes, there)
-
-  pub id-at-over : length bytes ≤ end → part bytes start (length bytes) ≡ idAt mark bytes start
-  unfolding before
-  id-at-over h =
-      part-rest bytes start end h
-      ∙ front-ended mark (drop start bytes) (end - start) (rw (rest-is, drop-of-length-le bytes {i = end} h, take-nil))
-      ∙ sym (from .rest)
-
-  module _ (within : end < length bytes) (few : end - start ≡ 16 → ⊥) where
-    pub id-at-marked : getD bytes end 0 ≡ mark → part bytes start end ≡ idAt mark bytes start
-    unfolding before
-    id-at-marked e =
-        let left : 16 - (end - start) ≡ suc (15 - (end - start)) = omega (arith, from .few, few) in
-        front-ended mark (drop start bytes) (end - start) (rw (left, rest-is, drop-cons bytes end 0 within, eq-eqb (getD bytes end 0) mark e))
-        ∙ sym (from .rest)
-
-    pub id-at-more : (getD bytes end 0 ≡ mark → ⊥) → IdUpTo mark bytes start (end + 1)
-    id-at-more other =
-        let there : start + (end - start) ≡ end = omega (arith, from .behind) in
-        let next : end + 1 - start ≡ suc (end - start) = omega (arith, from .behind) in
-        let below : end - start < 16 = omega (arith, from .few, few) in
-        record {
-          behind = omega (arith, from .behind);
-          within = omega arith;
-          few = omega arith;
-          rest =
-              rw (from .rest, next)
-              (front-more mark (drop start bytes) (end - start) below (omega (arith, length-drop start bytes, from .behind))
-              (λ e. other (rw (getD-drop start bytes (end - start) 0, there) at e)));
-        }
+  pub id-at-first : before mark (part bytes start (start + 16)) ≡ idAt mark bytes start
+  unfolding idAt
+  id-at-first = let sixteen : start + 16 - start ≡ 16 = omega arith in rw sixteen
 
 -- ---- an id in a text, and in a row
 

@@ -7,6 +7,7 @@ use mathlib.Core.Path.{_≡_, refl, sym, _∙_}
 use mathlib.Core.Bool.{Bool, true, false}
 use mathlib.Core.List.{List}
 use borrow.Author.Tests.{eq-eqb, ne-eqb, eqb-true, eqb-false}
+use lib.Arith.{digits-mod}
 use lib.Dec.{eqb}
 use lib.ListN.{length, drop, getD, drop-of-length-le, List·getD-eq-default}
 use lib.Seq.{drop-cons}
@@ -32,6 +33,21 @@ module _ {id : List ℕ} {hash i : ℕ} (from : HashFrom id hash i) where
   pub hash-over : length id ≤ i → hash ≡ hashOf id
   unfolding hashFrom
   hash-over h = rw (from .rest, drop-of-length-le id {i = i} h)
+
+-- two steps at once
+two-steps : (hash a b : ℕ) → (hash * 1640493009 + (a * 1640493009 + b * 40503)) % 4294967296 ≡ ((hash + a) * 40503 % 4294967296 + b) * 40503 % 4294967296
+two-steps hash a b =
+    let first : ℕ = (hash + a) * 40503 in
+    let second : ℕ = (first % 4294967296 + b) * 40503 in
+    let turns : ℕ = first / 4294967296 * 40503 + second / 4294967296 in
+    let whole : hash * 1640493009 + (a * 1640493009 + b * 40503) ≡ turns * 4294967296 + second % 4294967296 = omega arith in
+    rw whole (digits-mod turns (omega arith))
+
+pub hash-pair : {id : List ℕ} {hash i : ℕ} → HashFrom id hash i → i + 1 < length id →
+    HashFrom id ((hash * 1640493009 + (getD id i 0 * 1640493009 + getD id (i + 1) 0 * 40503)) % 4294967296) (i + 2)
+hash-pair {id} {hash} {i} from h =
+    let next : i + 2 ≡ i + 1 + 1 = omega arith in
+    rw (two-steps hash (getD id i 0) (getD id (i + 1) 0), next) (hash-more (hash-more from (omega arith)) h)
 
 -- ---- the slots from one on
 

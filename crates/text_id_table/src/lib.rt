@@ -1,9 +1,23 @@
 // Ids among others: the id that starts at a position, and a table in which the place of each id is kept in the first empty slot from the id's bucket on. The ids
 // of the slots passed are compared; that is about one for each id, and every one kept only where ids were chosen to fall into one bucket.
 ghost use mathlib.Core.Path.{_≡_};
-ghost use Rattle.text_id_table.specs.Ids.{idAt};
+ghost use Rattle.text_id_table.specs.Ids.{before, idAt};
 ghost use Rattle.text_id_table.specs.Table.{hashOf, slotOf};
 use text_word::is_word;
+
+// The bytes before the first mark; all of them where there is none.
+fn before_mark<'a>(bytes: &'a [u8], mark: u8) -> &'a [u8]
+    ensures { λ r. ⌜ now r ≡ before mark (now (bytes .entry)) ⌝ }
+{
+    let mut end: usize = 0;
+    while end < bytes.len() {
+        if bytes[end] == mark {
+            return &bytes[..end];
+        }
+        end += 1;
+    }
+    bytes
+}
 
 // The id that starts at a position: the bytes before a mark, at most 16.
 pub fn id_at<'a>(bytes: &'a [u8], mark: u8, start: usize) -> &'a [u8]
@@ -12,28 +26,25 @@ pub fn id_at<'a>(bytes: &'a [u8], mark: u8, start: usize) -> &'a [u8]
     if bytes.len() <= start {
         return &bytes[..0];
     }
-    let mut end = start;
-    while end < bytes.len() {
-        if end - start == 16 {
-            return &bytes[start..end];
-        }
-        if bytes[end] == mark {
-            return &bytes[start..end];
-        }
-        end += 1;
+    if bytes.len() - start < 16 {
+        return before_mark(&bytes[start..], mark);
     }
-    &bytes[start..]
+    before_mark(&bytes[start..start + 16], mark)
 }
 
-// A number below 2^32 from the bytes of an id.
+// A number below 2^32 from the bytes of an id, two at a time, since each step waits for the product of the one before; 1640493009 is 40503 squared.
 fn hash_of(id: &[u8]) -> usize
     ensures { λ r. ⌜ r ≡ hashOf (now (id .entry)) ⌝ }
 {
     let mut hash: usize = 0;
     let mut i: usize = 0;
-    while i < id.len() {
+    while i + 1 < id.len() {
+        let pair = id[i] as usize * 1640493009 + id[i + 1] as usize * 40503;
+        hash = (hash * 1640493009 + pair) % 4294967296;
+        i += 2;
+    }
+    if i < id.len() {
         hash = (hash + id[i] as usize) * 40503 % 4294967296;
-        i += 1;
     }
     hash
 }

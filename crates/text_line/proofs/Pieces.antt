@@ -1,6 +1,6 @@
 -- Laws on the pieces of a byte string: what the first piece is, and where it ends.
 use Prim.Native.Nat.{ℕ, zero, suc, _+_, _-_, _≤_, _<_}
-use mathlib.Core.Path.{_≡_, refl, _∙_}
+use mathlib.Core.Path.{_≡_, refl, sym, ap, _∙_}
 use mathlib.Core.Bool.{Bool, true, false, cond}
 use mathlib.Core.List.{List, [], _∷_, _++_, append-assoc}
 use native.Mathlib.Numerals.{add-one}
@@ -8,7 +8,7 @@ use native.Mathlib.Nat.{add-sub-cancel-left}
 use native.Mathlib.Omega.{arith}
 use lib.Dec.{eqb}
 use lib.ListN.{length, take, drop, getD, drop-of-length-le, length-drop}
-use lib.Seq.{drop-cons, drop-drop}
+use lib.Seq.{drop-cons, drop-drop, take-suc, length-take-le, drop-append-le}
 use borrow.Author.Tests.{eq-eqb, ne-eqb}
 use Rattle.text_line.specs.Piece.{piecesFrom, pieceLength, oneMore}
 
@@ -107,6 +107,48 @@ module _ {mark : ℕ} {bytes : List ℕ} {from i : ℕ} (before : Unmarked mark 
         behind = omega (arith, before .behind);
         whole = rw (before .whole, on, e) (farther-more (i - from) (pieceLength mark (drop (i + 1) bytes)));
       }
+
+  -- where there is a piece, it ends behind the position
+  pub unmarked-within : 0 < pieceLength mark (drop from bytes) → i < from + pieceLength mark (drop from bytes)
+  unmarked-within some = go (pieceLength mark (drop i bytes)) (before .whole)
+    where
+      go : (n : ℕ) → pieceLength mark (drop from bytes) ≡ farther (i - from) n → i < from + pieceLength mark (drop from bytes)
+      go zero none = absurd (omega arith)
+      go (suc n) on = omega (arith, before .behind)
+
+-- ---- what follows the last mark is no piece
+
+unmarked-byte : (mark : ℕ) (front bytes : List ℕ) (byte : ℕ) → (byte ≡ mark → ⊥) → piecesFrom mark front (bytes ++ (byte ∷ [])) ≡ piecesFrom mark front bytes
+unfolding piecesFrom
+unmarked-byte mark front [] byte other = rw (ne-eqb byte mark other)
+unmarked-byte mark front (first ∷ rest) byte other = rw (unmarked-byte mark [] rest byte other, unmarked-byte mark (front ++ (first ∷ [])) rest byte other)
+
+marked-some : (mark : ℕ) (bytes : List ℕ) → 0 < pieceLength mark (bytes ++ (mark ∷ []))
+unfolding pieceLength
+marked-some mark [] = rw (eq-eqb mark mark refl) (omega arith)
+marked-some mark (first ∷ rest) = go (eqb first mark) (pieceLength mark (rest ++ (mark ∷ []))) (marked-some mark rest)
+  where
+    go : (test : Bool) (n : ℕ) → 0 < n → 0 < cond test 1 (oneMore n)
+    go true n some = omega arith
+    go false zero some = absurd (omega arith)
+    go false (suc n) some = omega arith
+
+-- by the last byte of the first `end`
+module _ (mark : ℕ) (bytes : List ℕ) (end : ℕ) (some : 0 < end) (within : end ≤ length bytes) where
+  last-taken : take end bytes ≡ take (end - 1) bytes ++ (getD bytes (end - 1) 0 ∷ [])
+  last-taken =
+      let last : end ≡ suc (end - 1) = omega arith in
+      ap (λ (n : ℕ). take n bytes) last ∙ take-suc bytes (end - 1) 0 (omega arith)
+
+  -- it is no mark: without it there are as many pieces
+  pub unmarked-last : (getD bytes (end - 1) 0 ≡ mark → ⊥) → piecesFrom mark [] (take (end - 1) bytes) ≡ piecesFrom mark [] (take end bytes)
+  unmarked-last other = sym (ap (piecesFrom mark []) last-taken ∙ unmarked-byte mark [] (take (end - 1) bytes) (getD bytes (end - 1) 0) other)
+
+  -- it is one: wherever a byte is left, a piece is
+  pub marked-last : getD bytes (end - 1) 0 ≡ mark → (from : ℕ) → from < end → 0 < pieceLength mark (drop from (take end bytes))
+  marked-last e from before =
+      let front : length (take (end - 1) bytes) ≡ end - 1 = length-take-le (end - 1) bytes (omega arith) in
+      rw (last-taken, e, drop-append-le from (take (end - 1) bytes) (mark ∷ []) (omega arith)) (marked-some mark (drop from (take (end - 1) bytes)))
 
 -- ---- bytes that are written out: their pieces computed
 

@@ -62,7 +62,7 @@ laid-both {buffer} {middle} {after} {at} {next} {last} {one} {other} first then 
     }
 
 -- one byte more of some bytes
-pub laid-next : (buffer : List ℕ) (at : ℕ) (bytes : List ℕ) (i : ℕ) → i < length bytes → at + length bytes ≤ length buffer → set (laidAt buffer at (take i bytes)) (at + i) (getD bytes i 0) ≡ laidAt buffer at (take (i + 1) bytes)
+pub laid-next : (buffer : List ℕ) (at : ℕ) (bytes : List ℕ) (i : ℕ) → i < length bytes → at + i < length buffer → set (laidAt buffer at (take i bytes)) (at + i) (getD bytes i 0) ≡ laidAt buffer at (take (i + 1) bytes)
 laid-next buffer at bytes i within room =
     let long : length (take i bytes) ≡ i = length-take-le i bytes (omega arith) in
     ap (λ (n : ℕ). set (laidAt buffer at (take i bytes)) (at + n) (getD bytes i 0)) (sym long) ∙

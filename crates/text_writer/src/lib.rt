@@ -1,15 +1,16 @@
 // Writing into a lent buffer: the length is known before a byte is written, and bytes after the text stay.
 ghost use mathlib.Core.Bool.{true};
 ghost use mathlib.Core.Path.{_≡_};
-ghost use Prim.Native.Nat.{_≤_, _+_, _-_};
+ghost use Prim.Native.Nat.{_≤_, _<_, _+_, _-_};
 ghost use lib.Dec.{leb};
 ghost use lib.ListN.{length};
+ghost use Rattle.text_line.specs.Piece.{pieceLength};
 ghost use Rattle.text_number.specs.Number.{digitsOf, writtenNumber};
 ghost use Rattle.text_schema.specs.Schema.{keysOf};
-ghost use Rattle.text_writer.specs.internal.Signed.{signed, signedLine, cutTo};
+ghost use Rattle.text_writer.specs.internal.Keys.{firstKey, WholeKeys};
+ghost use Rattle.text_writer.specs.internal.Signed.{signed, signedValue, signedLine, cutTo};
 ghost use Rattle.text_writer.specs.Write.{writtenNumbers, TextLaid, LinesWritten};
 use integer::magnitude;
-use text_line::piece::part;
 use text_line::piece::piece_end;
 
 pub mod line;
@@ -87,16 +88,24 @@ fn put_number(buffer: &mut [u8], start: usize, end: usize, negative: bool, n: u6
     first - 1
 }
 
+// A number and byte 10; where the next line starts.
+fn put_value(buffer: &mut [u8], at: usize, negative: bool, n: u64) -> usize
+    requires { ⌜ at + length (signedValue negative n) ≤ length (now buffer) ⌝ }
+    ensures { λ r. ⌜ TextLaid (signedValue negative n) (now (buffer .entry)) at (now (buffer .exit)) r ⌝ }
+{
+    let end = at + digit_count(n) + negative as usize;
+    put_number(buffer, at, end, negative, n);
+    buffer[end] = 10;
+    end + 1
+}
+
 // A line: its key, the number, byte 10; where the next line starts.
 fn put_line(buffer: &mut [u8], at: usize, key: &[u8], negative: bool, n: u64) -> usize
     requires { ⌜ at + length (signedLine (now key) negative n) ≤ length (now buffer) ⌝ }
     ensures { λ r. ⌜ TextLaid (signedLine (now (key .entry)) negative n) (now (buffer .entry)) at (now (buffer .exit)) r ⌝ }
 {
     let start = put_bytes(buffer, at, key);
-    let end = start + digit_count(n) + negative as usize;
-    put_number(buffer, start, end, negative, n);
-    buffer[end] = 10;
-    end + 1
+    put_value(buffer, start, negative, n)
 }
 
 // Whether short numbers are sure to fit: none has more than seven digits, and there is room for as many. No digit is counted.
@@ -151,21 +160,49 @@ fn lines_fit(keys: &[u8], values: &[i64], room: usize) -> bool
     counted_lines_fit(keys, values, room)
 }
 
+// The keys up to the last `=`: what follows it is no key.
+fn whole_keys<'a>(keys: &'a [u8]) -> &'a [u8]
+    ensures { λ r. ⌜ (keysOf (now r) ≡ keysOf (now (keys .entry))) × WholeKeys (now r) ⌝ }
+{
+    let mut end = keys.len();
+    while 0 < end {
+        if keys[end - 1] == 61 {
+            return &keys[..end];
+        }
+        end -= 1;
+    }
+    &keys[..0]
+}
+
+// The first of some keys, whose end is found on the way; where the number behind it starts.
+fn put_key(buffer: &mut [u8], at: usize, keys: &[u8]) -> usize
+    requires { ⌜ (0 < pieceLength 61 (now keys)) × (at + pieceLength 61 (now keys) ≤ length (now buffer)) ⌝ }
+    ensures { λ r. ⌜ TextLaid (firstKey (now (keys .entry))) (now (buffer .entry)) at (now (buffer .exit)) r ⌝ }
+{
+    let mut i: usize = 0;
+    while keys[i] != 61 {
+        buffer[at + i] = keys[i];
+        i += 1;
+    }
+    buffer[at + i] = 61;
+    at + i + 1
+}
+
 // The lines, which the buffer has room for; where the next line starts.
 fn put_lines(buffer: &mut [u8], mut at: usize, keys: &[u8], values: &[i64]) -> usize
-    requires { ⌜ at + length (writtenNumbers (keysOf (now keys)) (now values)) ≤ length (now buffer) ⌝ }
+    requires { ⌜ WholeKeys (now keys) × (at + length (writtenNumbers (keysOf (now keys)) (now values)) ≤ length (now buffer)) ⌝ }
     ensures { λ r. ⌜ TextLaid (writtenNumbers (keysOf (now (keys .entry))) (now (values .entry))) (now (buffer .entry)) at (now (buffer .exit)) r ⌝ }
 {
     let mut from: usize = 0;
     let mut i: usize = 0;
     while i < values.len() {
-        let end = piece_end(keys, from, 61);
-        if end == from {
+        if keys.len() <= from {
             return at;
         }
+        let start = put_key(buffer, at, &keys[from..]);
+        from += start - at;
         let z = values[i];
-        at = put_line(buffer, at, part(keys, from, end), z < 0, magnitude(z));
-        from = end;
+        at = put_value(buffer, start, z < 0, magnitude(z));
         i += 1;
     }
     at
@@ -179,7 +216,7 @@ pub fn write_lines(buffer: &mut [u8], at: usize, keys: &[u8], values: &[i64]) ->
         return Written::Short;
     }
     if lines_fit(keys, values, buffer.len() - at) {
-        let next = put_lines(buffer, at, keys, values);
+        let next = put_lines(buffer, at, whole_keys(keys), values);
         return Written::Ended { next };
     }
     Written::Short

@@ -40,7 +40,7 @@ loop-again c =
     let a = c .before .before .before .args in
     let l = c .before .before .loop in (
       omega arith,
-      ap (λ (bytes : List ℕ). set bytes (a .at + l .i) (getD (now (a .bytes)) (l .i) 0)) (l .inv .1) ∙ laid-next (now (a .buffer)) (a .at) (now (a .bytes)) (l .i) (c .before .loop-test .taken) (c .before .before .before .pre),
+      ap (λ (bytes : List ℕ). set bytes (a .at + l .i) (getD (now (a .bytes)) (l .i) 0)) (l .inv .1) ∙ laid-next (now (a .buffer)) (a .at) (now (a .bytes)) (l .i) (c .before .loop-test .taken) (omega (arith, c .before .before .before .pre, c .before .loop-test .taken)),
       simp length-set (l .inv .2),
     )
 

@@ -33,8 +33,13 @@ fits c =
     let s = c .before .before .before .before .before in
     leb-true (length (text s)) (room s) (sym (c .before .lines-fit .ensures) ∙ c .if2 .taken)
 
+whole-keys-requires : tie.Need-whole-keys-requires
+whole-keys-requires c κs = tt
+
 put-lines-requires : tie.Need-put-lines-requires
-put-lines-requires c κs = omega (arith, fits (c .before), c .before .before .before .if1 .left)
+put-lines-requires c κs =
+    let t = c .before .before in
+    (c .whole-keys .ensures .1, rw (c .whole-keys .ensures .0) (omega (arith, fits t, t .before .before .if1 .left)))
 
 same-length : tie.Need-same-length
 same-length c = c .before .before .put-lines .kept .0
@@ -42,7 +47,8 @@ same-length c = c .before .before .put-lines .kept .0
 returns-2 : tie.Need-returns-2
 returns-2 c =
     let p = c .before .before in
-    text-stands (p .put-lines .ensures) (omega (arith, fits (p .before .before), p .before .before .before .before .if1 .left))
+    let t = p .before .before .before in
+    text-stands (rw (p .before .whole-keys .ensures .0) at (p .put-lines .ensures)) (omega (arith, fits t, t .before .before .if1 .left))
 
 returns-3 : tie.Need-returns-3
 returns-3 c =
@@ -57,6 +63,7 @@ write-lines-spec =
     returns
     sub-lines-fit
     lines-fit-requires
+    whole-keys-requires
     put-lines-requires
     same-length
     returns-2

@@ -13,9 +13,13 @@ signOf negative = cond negative (45 ∷ []) []
 abbrev pub signed : Bool → ℕ → List ℕ
 signed negative n = signOf negative ++ digitsOf n
 
+-- a number and byte 10
+abbrev pub signedValue : Bool → ℕ → List ℕ
+signedValue negative n = signed negative n ++ (10 ∷ [])
+
 -- a line: its key, the number, byte 10
 abbrev pub signedLine : List ℕ → Bool → ℕ → List ℕ
-signedLine key negative n = key ++ (signed negative n ++ (10 ∷ []))
+signedLine key negative n = key ++ signedValue negative n
 
 -- the last bytes of a text, so many where it is longer
 abbrev pub cutTo : ℕ → List ℕ → List ℕ
