@@ -11,7 +11,7 @@ use lib.ListN.{length, drop}
 use lib.Seq.{take-at}
 use lib.Signed.{_≤ℤ_}
 use Rattle.integer.proofs.Difference.{view, toℕ}
-use Rattle.text_refusal.specs.Answer.{refusal, lentAfterAnswer}
+use Rattle.text_refusal.specs.Answer.{lentAfterAnswer}
 use Rattle.text_refusal.specs.declared.answer.Answer.{Answer}
 use Rattle.text_refusal.specs.declared.answer.Answer.the-variants as answer
 use Rattle.text_schema.specs.Schema.{laidOver}

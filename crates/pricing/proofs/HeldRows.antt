@@ -20,7 +20,7 @@ use Rattle.pricing_resource.specs.declared.Resource.{Resource}
 use Rattle.pricing_resource.specs.declared.Resource.the-variants as resource
 use Rattle.pricing_resource_text.specs.Resource.{statusOf}
 use Rattle.pricing_snapshot.specs.Snapshot.{Entry}
-use Rattle.pricing_held.specs.Rows.{Row, heldCount, placeOf, rowAt, rowsFrom, heldRows, resourceOfKind, entryOf}
+use Rattle.pricing_held.specs.Rows.{heldCount, placeOf, rowAt, rowsFrom, heldRows, resourceOfKind, entryOf}
 use Rattle.pricing_held.proofs.Counts.{held-count-is}
 use Rattle.pricing_held.proofs.Definitions.{row-at-is, rows-from-none, rows-from-more, entry-of-is}
 use Rattle.pricing_held_reading.specs.Reading.{kindPlace, statusPlace, idRow, numberRow, idRows, numberRows}

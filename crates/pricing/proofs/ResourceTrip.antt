@@ -10,9 +10,9 @@ use mathlib.Core.Path.{_≡_, refl, sym, ap, subst, subst⁻¹, _∙_}
 use lib.IntN.{ℤ, pos}
 use lib.ListN.{length, take}
 use Rattle.text_refusal.specs.Bytes.{bytes}
-use Rattle.text_line.specs.Field.{Field, got, refused, fieldAt}
+use Rattle.text_line.specs.Field.{Field, got, fieldAt}
 use Rattle.text_line.proofs.LineBytes.{one-line}
-use Rattle.text_schema.specs.Schema.{readFields, value}
+use Rattle.text_schema.specs.Schema.{readFields}
 use Rattle.text_schema.specs.Checked.{CheckedLine, checkedLine, checkedLines, textOf}
 use Rattle.text_schema.proofs.Readings.{reading-length}
 use Rattle.text_schema.proofs.Checked.{Unrefused, NumberLines, text-first, lines-long, checked-taken}

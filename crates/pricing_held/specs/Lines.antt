@@ -7,7 +7,6 @@ use lib.Dec.{eqb}
 use lib.IntN.{ℤ}
 use Rattle.text_refusal.specs.Bytes.{bytes}
 use Rattle.text_refusal.specs.declared.answer.Answer.{Answer}
-use Rattle.text_line.specs.Field.{Field}
 use Rattle.text_id.specs.Id.{idField}
 use Rattle.text_id_table.specs.Ids.{standsIn}
 use Rattle.text_schema.specs.Checked.{CheckedLine, checkedLine, checkedLines, textOf, firstRefused}
@@ -26,12 +25,16 @@ newId above id line = record { bytes = line .bytes; number = cond (eqb (line .nu
 abbrev pub idLine : List (List ℕ) → List ℕ → CheckedLine
 idLine above id = newId above id (checkedLine (idField (bytes "id=")) id)
 
--- the lines after the kind's: of a generator its status and six numbers, of a load four numbers
+-- the lines of a generator after its kind's: its status and six numbers
+abbrev pub generatorLines : Row → List CheckedLine
+generatorLines row = checkedLine statusField (row .status) ∷ checkedLines generatorFields (row .numbers)
+
+-- the lines after the kind's, by the kind's place in the list of words: `gen`, `wind`, `irr`, `nuke`, `clr`, `nclr`; a load has four numbers
 abbrev pub linesOfKind : ℕ → Row → List CheckedLine
-linesOfKind zero row = checkedLine statusField (row .status) ∷ checkedLines generatorFields (row .numbers)
-linesOfKind (suc zero) row = checkedLine statusField (row .status) ∷ checkedLines generatorFields (row .numbers)
-linesOfKind (suc (suc zero)) row = checkedLine statusField (row .status) ∷ checkedLines generatorFields (row .numbers)
-linesOfKind (suc (suc (suc zero))) row = checkedLine statusField (row .status) ∷ checkedLines generatorFields (row .numbers)
+linesOfKind zero row = generatorLines row
+linesOfKind (suc zero) row = generatorLines row
+linesOfKind (suc (suc zero)) row = generatorLines row
+linesOfKind (suc (suc (suc zero))) row = generatorLines row
 linesOfKind (suc (suc (suc (suc zero)))) row = checkedLines controllableFields (row .numbers)
 linesOfKind (suc (suc (suc (suc (suc n))))) row = checkedLines loadFields (row .numbers)
 

@@ -14,7 +14,7 @@ use pricing_snapshot::read_snapshot;
 use text_refusal::answer::Answer;
 use text_refusal::refusal::Refusal;
 
-// The header and the resources of a text that was read already.
+// The header and the resources of a text that was read already; the sizes are those of the header's keys.
 fn lay_snapshot(
     text: &[u8],
     count: usize,

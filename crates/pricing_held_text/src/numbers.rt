@@ -28,7 +28,7 @@ pub(crate) fn numbers_length(values: &[i64]) -> usize
     total
 }
 
-// How many bytes the lines of a row after its kind have; `values` begins with the row.
+// How many bytes the lines of a row after its kind have; `values` begins with the row. 46, 27 and 22 are the bytes of the keys and of byte 10 in each line.
 pub(crate) fn values_length(values: &[i64], kind: usize) -> usize
     requires { ⌜ 8 ≤ length (now values) ⌝ }
     ensures { λ r. ⌜ (r ≡ length (textOf (linesOfKind kind (rowOf (now (values .entry)))))) × (r ≤ 174) ⌝ }

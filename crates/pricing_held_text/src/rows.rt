@@ -19,7 +19,7 @@ use text_id_table::id_at;
 use text_writer::line::write_text_line;
 use text_writer::write_lines;
 
-// How many bytes the text of a row has.
+// How many bytes the text of a row has; 10 are those of `id=`, of `kind=` and of byte 10 in both lines.
 fn row_length(ids: &[u8], numbers: &[i64], i: usize) -> usize
     requires { ⌜ (32 * i + 32 ≤ length (now ids)) × (9 * i + 9 ≤ length (now numbers)) ⌝ }
     ensures { λ r. ⌜ (r ≡ length (rowText (rowAt (now (ids .entry)) (now (numbers .entry)) i))) × (r ≤ 256) ⌝ }
@@ -86,7 +86,7 @@ fn header_values(header: &[i64; 8], count: usize) -> [i64; 8]
     ]
 }
 
-// How many bytes the text has.
+// How many bytes the text has; 54 are those of the header's keys and of byte 10 in each line.
 pub(crate) fn text_length(header: &[i64; 8], ids: &[u8], numbers: &[i64]) -> usize
     requires { ⌜ heldCount (now ids) (now numbers) ≤ 4096 ⌝ }
     ensures { λ r. ⌜ r ≡ length (heldText (now (header .entry)) (now (ids .entry)) (now (numbers .entry))) ⌝ }

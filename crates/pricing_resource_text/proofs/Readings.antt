@@ -12,7 +12,6 @@ use Rattle.text_schema.specs.Schema.{Reading, readFields}
 use Rattle.text_schema.proofs.Readings.{number-at}
 use Rattle.text_line.specs.declared.Lines.{Lines}
 use Rattle.text_line.specs.declared.Lines.the-variants as lines
-use Rattle.text_schema.specs.Schema.{value}
 use Rattle.pricing_resource_text.specs.Resource.{kindField, statusField, statusOf, generatorFields, controllableFields, loadFields, generatorOf, controllableOf, loadOf, afterAnswer, ofLines, linesAs, generatorAt, ofKind, resourceAt}
 use Rattle.pricing_resource.specs.declared.Kind.{Kind}
 use Rattle.pricing_resource.specs.declared.Kind.the-variants as kind

@@ -1,8 +1,7 @@
 -- A line is read as a value where it is written so and not refused, and nowhere else: for any kind of value, and for lines of a schema.
-use Prim.Native.Nat.{ℕ, zero, _+_, _<_}
+use Prim.Native.Nat.{ℕ, _+_, _<_}
 use native.Mathlib.Nat.{add-zero}
 use native.Mathlib.Omega.{arith}
-use mathlib.Core.Bool.{cond}
 use mathlib.Core.List.{List, [], _∷_, _++_, append-assoc}
 use mathlib.Core.Path.{_≡_, refl, sym, ap, _∙_}
 use lib.ListN.{length, take, drop, length-append, length-drop, take-append-drop}

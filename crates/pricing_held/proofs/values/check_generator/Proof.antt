@@ -2,7 +2,7 @@
 use native.Mathlib.Omega.{arith}
 use borrow.Author.Needs.{sfits-of}
 use mathlib.Core.Path.{_≡_, refl, ap, _∙_}
-use lib.ListN.{take, drop, length-drop}
+use lib.ListN.{drop, length-drop}
 use lib.Seq.{length-take-le}
 use mir.Facts.{toZ-ofZ}
 use Rattle.text_schema.specs.Schema.{value}
