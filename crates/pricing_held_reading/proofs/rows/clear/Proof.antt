@@ -10,9 +10,9 @@ use borrow.Author.Needs.{needs}
 use Rattle.pricing_held_reading.proofs.rows.clear.Statement.{statement}
 use Rattle.pricing_held_reading.proofs.rows.clear.Tie as tie
 
--- one zero more
-zero-more : (n zero : ℕ) → replicate n zero ++ (zero ∷ []) ≡ replicate (suc n) zero
-zero-more n zero = replicate-append-replicate n 1 zero ∙ ap (λ (m : ℕ). replicate m zero) (add-one n)
+-- one byte more
+one-more : (n byte : ℕ) → replicate n byte ++ (byte ∷ []) ≡ replicate (suc n) byte
+one-more n byte = replicate-append-replicate n 1 byte ∙ ap (λ (m : ℕ). replicate m byte) (add-one n)
 
 abbrev Inv-loop : tie.InvT-loop
 Inv-loop row₀ i₀ row i = (length row ≡ length row₀) × (i ≤ length row) × (take i row ≡ replicate i 0)
@@ -37,7 +37,7 @@ loop-again c =
     let l = c .before .loop in (
       length-set (l .row) (l .i) 0 ∙ l .inv .0,
       simp length-set (omega arith),
-      rw (add-one (l .i), take-suc-set (l .row) (l .i) 0 (c .loop-test .taken), l .inv .2) (zero-more (l .i) 0),
+      rw (add-one (l .i), take-suc-set (l .row) (l .i) 0 (c .loop-test .taken), l .inv .2) (one-more (l .i) 0),
     )
 
 same-length : tie.Need-same-length Inv-loop μ-loop
