@@ -65,7 +65,7 @@ enum {
     ORDC_RECORD = 72,
     ORDC_CURVES = 50,
     ORDC_ANSWER = 6,
-    ORDC_CURVE_TEXT = 700, /* no written curve text is longer */
+    ORDC_CURVE_TEXT = 700, /* no written curve text is longer, so a buffer of this many bytes is enough for any */
     ORDC_PAGE = 1728,      /* every page has this many bytes */
     ORDC_HEADER = 8,       /* numbers of a snapshot's header */
     ORDC_ID_ROW = 32,      /* bytes in a resource's row of ids */
@@ -153,7 +153,15 @@ struct ordc_refusal ordc_settle(const int64_t record[ORDC_RECORD], int64_t voll,
  * Refusals: 2, 3 to 7, 9. On a refusal curves is as before. */
 struct ordc_refusal ordc_read_curves(const uint8_t *text, size_t length, int64_t curves[ORDC_CURVES]);
 
-/* Writes a curve set's text to the front of a buffer; it has at most ORDC_CURVE_TEXT bytes.
+/* Tells how long a curve set's text is: at least 327 bytes and at most ORDC_CURVE_TEXT, and there are sets of both
+ * lengths.
+ *   curves  read only.
+ *   length  where accepted, the length in bytes of the text that ordc_write_curves writes.
+ * Refusals: 1. On a refusal length is as before. */
+struct ordc_refusal ordc_curves_length(const int64_t curves[ORDC_CURVES], size_t *length);
+
+/* Writes a curve set's text to the front of a buffer. The text has exactly as many bytes as ordc_curves_length tells: a
+ * buffer of just that length is enough, and one of ORDC_CURVE_TEXT bytes is enough for any set.
  *   curves  read only.
  *   buffer  where accepted, holds the text; bytes after the text are as before.
  *   written where accepted, the text's length in bytes.

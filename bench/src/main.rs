@@ -110,11 +110,13 @@ fn history() {
         .iter()
         .map(|curves| curves.to_text().expect("the curves are accepted"))
         .collect();
-    let (mut buffer, mut space) = ([0; 700], [0; 700]);
-    for (text, curves) in texts.iter().zip(&expected) {
+    let (mut buffer, mut space) = ([0; ordc::CURVE_TEXT], [0; reference::WRITTEN_LIMIT]);
+    for ((text, set), curves) in texts.iter().zip(&settled).zip(&expected) {
         let length =
             reference::write_curves(curves, &mut space).expect("the buffer is long enough");
         assert_eq!(text[..], space[..length]);
+        assert_eq!(set.text_length(), Ok(length));
+        assert_eq!(reference::curves_length(curves), Ok(length));
     }
     row(
         "settle 24 groups",
@@ -133,6 +135,15 @@ fn history() {
         &texts,
         |text| ordc::CurveSet::from_text(text),
         |text| reference::read_curves(text),
+    );
+    row(
+        "length of curves",
+        SHORT,
+        &texts,
+        &settled,
+        &expected,
+        ordc::CurveSet::text_length,
+        reference::curves_length,
     );
     row(
         "write curves",

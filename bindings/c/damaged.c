@@ -1,7 +1,8 @@
 /* Hands damaged texts to every function, each text in a block of exactly its size, so that a memory checker sees any
  * byte that is touched beyond it. Checks that a refusal leaves what was lent, and that its number is one that the
- * function can give. Pages are written to blocks of exactly the size that is named, from possible and impossible sets.
- * Snapshots are read into rows and written from damaged rows, all of them in blocks of exactly their size. */
+ * function can give. Curve texts and pages are written to blocks of exactly the size that is named, from possible and
+ * impossible sets, and a curve text to one of just the length that is told. Snapshots are read into rows and written from
+ * damaged rows, all of them in blocks of exactly their size. */
 #include "ordc.h"
 
 #include <stdio.h>
@@ -82,6 +83,20 @@ static int64_t outside(size_t place)
     int64_t highest = place == 0 ? 2000000 : 20000000;
     int64_t numbers[] = {lowest - 1, highest + 1, INT64_MIN, INT64_MAX};
     return numbers[below(4)];
+}
+
+/* A number within the range of this place of a curve set, of few or many digits. */
+static int64_t within(size_t place)
+{
+    int64_t highest = place == 0 ? 2000000 : 20000000;
+    int64_t number = (int64_t)below((size_t)highest + 1);
+    for (size_t digits = below(9); digits > 0; digits--) {
+        number /= 10;
+    }
+    if (place < 2) {
+        return number;
+    }
+    return place % 2 == 0 ? (below(2) == 0 ? number : -number) : number > 0 ? number : 1;
 }
 
 /* Each row has its season, its block and six well-written numbers, all in their columns. */
@@ -169,6 +184,54 @@ static void expect(int holds, const char *what, struct ordc_refusal refusal)
 {
     if (!holds) {
         fprintf(stderr, "%s: number %u, line %u\n", what, (unsigned)refusal.number, (unsigned)refusal.line);
+        exit(EXIT_FAILURE);
+    }
+}
+
+/* Asks for the length of a set's text and writes it to blocks of exactly the size that is named; of none, a null pointer.
+ * What is written gives the set again. Gives the length, or 0 where the set is impossible. */
+static size_t write_curves(const int64_t set[ORDC_CURVES])
+{
+    size_t length = 77, bytes = ORDC_CURVES * sizeof *set;
+    int64_t *lent = marked(bytes), *again = marked(bytes);
+    memcpy(lent, set, bytes);
+    struct ordc_refusal measured = ordc_curves_length(lent, &length);
+    check("curves length", measured, "010000000000000", "", "", 0);
+    int possible = measured.number == ORDC_ACCEPTED;
+    expect(possible ? length >= 327 && length <= ORDC_CURVE_TEXT : length == 77 && measured.line == 0, "curves length, what is told", measured);
+    size_t sizes[] = {0, length - 1, length, length + 1, ORDC_CURVE_TEXT, below(800)};
+    for (size_t i = 0; i < sizeof sizes / sizeof sizes[0]; i++) {
+        size_t size = sizes[i], written = 78;
+        uint8_t *buffer = marked(size);
+        struct ordc_refusal refusal = ordc_write_curves(lent, buffer, size, &written);
+        int fits = possible && length <= size;
+        uint64_t number = !possible ? ORDC_IMPOSSIBLE_VALUES : fits ? ORDC_ACCEPTED : ORDC_BUFFER_SHORT;
+        expect(refusal.number == number && refusal.line == 0, "write curves", refusal);
+        expect(written == (fits ? length : 78) && stayed(buffer, fits ? length : 0, size), "write curves, buffer", refusal);
+        if (fits) {
+            refusal = ordc_read_curves(buffer, length, again);
+            expect(refusal.number == ORDC_ACCEPTED && memcmp(again, set, bytes) == 0, "reading what was written", refusal);
+        }
+        free(buffer);
+    }
+    expect(memcmp(lent, set, bytes) == 0, "write curves, set", measured);
+    free(again);
+    free(lent);
+    return possible ? length : 0;
+}
+
+/* The shortest curve text and the longest. Keys, `=` and byte 10 have 277 bytes. The 50 numbers have 1 each, or VOLL 7,
+ * X 8, and in each of the 24 groups the mean 9 and the spread 8. */
+static void shortest_and_longest(void)
+{
+    int64_t shortest[ORDC_CURVES] = {0}, longest[ORDC_CURVES] = {2000000, 20000000};
+    for (int group = 0; group < ORDC_GROUPS; group++) {
+        shortest[3 + 2 * group] = 1;
+        longest[2 + 2 * group] = -20000000;
+        longest[3 + 2 * group] = 20000000;
+    }
+    if (write_curves(shortest) != 327 || write_curves(longest) != ORDC_CURVE_TEXT) {
+        fprintf(stderr, "the shortest or the longest curve text has another length\n");
         exit(EXIT_FAILURE);
     }
 }
@@ -331,6 +394,7 @@ int main(int count, char **arguments)
     if (ordc_read_curves((const uint8_t *)curve_text, strlen(curve_text), curves).number != ORDC_ACCEPTED) {
         return EXIT_FAILURE;
     }
+    shortest_and_longest();
     for (long turn = 0; turn < turns; turn++) {
         size_t length;
         struct ordc_refusal refusal;
@@ -367,20 +431,14 @@ int main(int count, char **arguments)
         shown[place] = outside(place);
         page(shown, size, choice == 0, ORDC_IMPOSSIBLE_VALUES);
 
-        size = below(800);
-        size_t written = 77;
-        uint8_t *buffer = calloc(size + 1, 1), *blank = calloc(size + 1, 1);
-        if (buffer == NULL || blank == NULL) {
-            return EXIT_FAILURE;
-        }
         set[below(ORDC_CURVES)] += (int64_t)below(2) * INT64_C(4000000000);
-        refusal = ordc_write_curves(set, buffer, size, &written);
-        check("write", refusal, "010000000000001", blank, buffer, size);
-        if (refusal.number != ORDC_ACCEPTED && written != 77) {
-            return EXIT_FAILURE;
+        write_curves(set);
+        for (size_t i = 0; i < ORDC_CURVES; i++) {
+            set[i] = within(i);
         }
-        free(buffer);
-        free(blank);
+        write_curves(set);
+        set[place] = outside(place);
+        write_curves(set);
 
         text = damaged(SNAPSHOT, &length);
         int64_t answer[ORDC_ANSWER] = {1, 2, 3, 4, 5, 6}, was[ORDC_ANSWER] = {1, 2, 3, 4, 5, 6};

@@ -1,5 +1,6 @@
-/* Books hours, settles them, writes and reads the curve text, then prices a snapshot and prints the page of its curves.
- * Last it reads the snapshot into values, takes one unit out of service, writes the text and prices that too. */
+/* Books hours, settles them, writes the curve text to a buffer of just its length and reads it, then prices a snapshot
+ * and prints the page of its curves. Last it reads the snapshot into values, takes one unit out of service, writes the
+ * text and prices that too. */
 #include "ordc.h"
 
 #include <inttypes.h>
@@ -23,6 +24,14 @@ static void expect_refused(const char *what, struct ordc_refusal refusal, uint64
     }
 }
 
+static void expect(int holds, const char *what)
+{
+    if (!holds) {
+        fprintf(stderr, "%s\n", what);
+        exit(EXIT_FAILURE);
+    }
+}
+
 /* An hour of one run whose reserve error is `error`, which is -1 or above. */
 static struct ordc_refusal book_error(int64_t record[ORDC_RECORD], int month, int hour, int error)
 {
@@ -32,6 +41,41 @@ static struct ordc_refusal book_error(int64_t record[ORDC_RECORD], int month, in
                           "runs=1\nhsl=1\nbase=0\nrrs=0\nnclr=0\nreg=0\nns=0\noffns=0\ncold30=0\nshort=0\n",
                           month, hour, error + 1);
     return ordc_book(record, (const uint8_t *)text, (size_t)length);
+}
+
+/* Writes the settled curves to a buffer of just their text's length, and reads them again. */
+static void write_and_read(const int64_t curves[ORDC_CURVES], int64_t again[ORDC_CURVES])
+{
+    int64_t impossible[ORDC_CURVES];
+    size_t length = 0, written = 0;
+
+    /* Keys, `=` and byte 10 have 277 bytes: `voll=` 6 and `floor=` 7 with byte 10, and in each of the 24 groups `mu=` 4
+     * and `sigma=` 7. The numbers have 61: 900000 has 6, 2000000 has 7, and in each group 0 and 1 have 1 each. */
+    expect_accepted("length", ordc_curves_length(curves, &length));
+    expect(length == 277 + 61, "the curve text has another length");
+    uint8_t *text = malloc(length);
+    if (text == NULL) {
+        exit(EXIT_FAILURE);
+    }
+    expect_accepted("write", ordc_write_curves(curves, text, length, &written));
+    expect(written == length, "the curve text has another length than was told");
+    expect_accepted("read", ordc_read_curves(text, written, again));
+    expect(memcmp(curves, again, ORDC_CURVES * sizeof curves[0]) == 0, "the curve text gives other curves");
+
+    /* What a refusal looks like: a buffer of one byte too few, a buffer of no bytes, a spread of 0. */
+    memset(text, 'x', length);
+    written = 0;
+    expect_refused("short buffer", ordc_write_curves(curves, text, length - 1, &written), ORDC_BUFFER_SHORT, 0);
+    expect_refused("empty buffer", ordc_write_curves(curves, text, 0, &written), ORDC_BUFFER_SHORT, 0);
+    for (size_t i = 0; i < length; i++) {
+        expect(text[i] == 'x', "a refusal changed the buffer");
+    }
+    expect(written == 0, "a refusal changed what was written");
+    memcpy(impossible, curves, sizeof impossible);
+    impossible[ORDC_CURVES - 1] = 0;
+    expect_refused("impossible curves", ordc_curves_length(impossible, &length), ORDC_IMPOSSIBLE_VALUES, 0);
+    expect(length == 277 + 61, "a refusal changed the length");
+    free(text);
 }
 
 static const char SNAPSHOT[] =
@@ -109,9 +153,7 @@ int main(void)
     int64_t curves[ORDC_CURVES];
     int64_t again[ORDC_CURVES];
     int64_t answer[ORDC_ANSWER];
-    uint8_t text[ORDC_CURVE_TEXT];
     uint8_t page[ORDC_PAGE];
-    size_t length = 0;
 
     /* The errors -1 and 2 in each group: mean 0, spread 1. */
     for (int group = 0; group < ORDC_GROUPS; group++) {
@@ -123,23 +165,14 @@ int main(void)
     expect_accepted("settle", ordc_settle(record, 900000, 2000000, curves));
     printf("mean=%" PRId64 "\nspread=%" PRId64 "\n", curves[2], curves[3]);
 
-    expect_accepted("write", ordc_write_curves(curves, text, sizeof text, &length));
-    expect_accepted("read", ordc_read_curves(text, length, again));
-    if (memcmp(curves, again, sizeof curves) != 0) {
-        fprintf(stderr, "the curve text gives other curves\n");
-        return EXIT_FAILURE;
-    }
+    write_and_read(curves, again);
 
     /* What a refusal looks like: no line at all, a buffer of no bytes, a record that no hours give. */
     expect_refused("empty text", ordc_read_curves(NULL, 0, again), ORDC_LINE_ABSENT, 1);
-    expect_refused("short buffer", ordc_write_curves(curves, text, 0, &length), ORDC_BUFFER_SHORT, 0);
     expect_refused("no buffer", ordc_write_page(curves, NULL, 0), ORDC_BUFFER_SHORT, 0);
     record[0] = -1;
     expect_refused("impossible record", ordc_settle(record, 900000, 2000000, again), ORDC_IMPOSSIBLE_VALUES, 0);
-    if (memcmp(curves, again, sizeof curves) != 0) {
-        fprintf(stderr, "a refusal changed the curves\n");
-        return EXIT_FAILURE;
-    }
+    expect(memcmp(curves, again, sizeof curves) == 0, "a refusal changed the curves");
 
     /* The listing: every group has mean 0 and spread 1000000 kW. */
     for (int group = 0; group < ORDC_GROUPS; group++) {

@@ -14,7 +14,7 @@ enum { MARK = 0xa5 };
 
 static int64_t record[ORDC_RECORD], curves[ORDC_CURVES], answer[ORDC_ANSWER];
 static uint8_t written[ORDC_CURVE_TEXT];
-static size_t written_length;
+static size_t curves_length, written_length;
 static uint8_t page[ORDC_PAGE + 1];
 static uint8_t *page_buffer;
 static size_t page_size;
@@ -77,6 +77,12 @@ static void *book(void *none)
 static void *settle(void *none)
 {
     refusal = ordc_settle(record, 900000, 2000000, curves);
+    return none;
+}
+
+static void *measure_curves(void *none)
+{
+    refusal = ordc_curves_length(curves, &curves_length);
     return none;
 }
 
@@ -221,15 +227,19 @@ int main(void)
         expect(refusal.number == ORDC_ACCEPTED, "book");
     }
     try_call("settle", settle, ORDC_ACCEPTED);
+    try_call("curves length", measure_curves, ORDC_ACCEPTED);
     try_call("write curves", write_curves, ORDC_ACCEPTED);
+    expect(written_length == curves_length, "write curves");
     /* means on both sides of the reserves, and probabilities between the knots of the normal table */
     for (int group = 0; group < ORDC_GROUPS; group++) {
         curves[2 + 2 * group] = 1000003 * group - 10000000;
         curves[3 + 2 * group] = 1124667;
     }
     pages(1);
+    try_call("curves length, means of both signs", measure_curves, ORDC_ACCEPTED);
     curves[ORDC_CURVES - 1] = 0;
     pages(0);
+    try_call("curves length, impossible", measure_curves, ORDC_IMPOSSIBLE_VALUES);
     try_call("read curves", read_curves, ORDC_ACCEPTED);
     snapshot(3);
     try_call("price, 3 resources", price, ORDC_ACCEPTED);

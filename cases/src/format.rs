@@ -15,6 +15,7 @@ const WRITE_PAGE: i64 = 7;
 const PAGE_PROGRAM: i64 = 8;
 const READ_VALUES: i64 = 9;
 const WRITE_VALUES: i64 = 10;
+const CURVES_LENGTH: i64 = 11;
 
 /// The numbers of the arrays that an edit can be of.
 const HEADER: i64 = 0;
@@ -90,6 +91,10 @@ impl Writer {
                 self.text(text.bytes(), WRITE_VALUES);
                 self.edits(edits);
                 self.numbers(&[*ids as i64, *numbers as i64, *length as i64]);
+            }
+            Input::CurvesLength { curves } => {
+                self.text(Vec::new(), CURVES_LENGTH);
+                self.numbers(&curve_numbers(curves));
             }
         }
     }
@@ -241,6 +246,9 @@ impl<'a> Reader<'a> {
                 ids: self.length()?,
                 numbers: self.length()?,
                 length: self.length()?,
+            },
+            CURVES_LENGTH => Input::CurvesLength {
+                curves: self.curves()?,
             },
             _ => return None,
         })

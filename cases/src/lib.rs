@@ -4,6 +4,7 @@
 
 mod book;
 mod curve_text;
+mod curves_length;
 mod format;
 mod held;
 mod page;
@@ -19,8 +20,8 @@ pub use held::{checksum_of_numbers, Edit, LONGEST_BUFFER, MOST_EDITS, ROWS};
 pub use random::Random;
 
 use reference::{
-    book, price_snapshot, read_curves, run_curves, run_page, run_price, settle, write_curves,
-    write_page, CurveSet, Record, Refusal,
+    book, curves_length, price_snapshot, read_curves, run_curves, run_page, run_price, settle,
+    write_curves, write_page, CurveSet, Record, Refusal,
 };
 use std::collections::BTreeMap;
 
@@ -121,6 +122,10 @@ pub enum Input {
         numbers: usize,
         length: usize,
     },
+    /// The length of a curve set's text, before it is written.
+    CurvesLength {
+        curves: CurveSet,
+    },
 }
 
 impl Input {
@@ -137,6 +142,7 @@ impl Input {
             Input::PageProgram { .. } => 'g',
             Input::ReadValues { .. } => 'V',
             Input::WriteValues { .. } => 'T',
+            Input::CurvesLength { .. } => 'L',
         }
     }
 }
@@ -276,6 +282,10 @@ pub fn answer(input: &Input) -> Answer {
             numbers,
             length,
         } => held::write_answer(&text.bytes(), edits, *ids, *numbers, *length),
+        Input::CurvesLength { curves } => match curves_length(curves) {
+            Ok(length) => Answer::Accepted(vec![length as i64]),
+            Err(refusal) => refused(1)(refusal),
+        },
     }
 }
 
@@ -299,11 +309,12 @@ pub fn all_cases(seed: u64) -> Vec<Case> {
     page::add(&mut cases, &mut random);
     read_values::add(&mut cases, &mut random);
     write_values::add(&mut cases, &mut random);
+    curves_length::add(&mut cases);
     cases
 }
 
 /// The refusal numbers that each operation can give.
-pub const CAN_REFUSE: [(char, &[u32]); 11] = [
+pub const CAN_REFUSE: [(char, &[u32]); 12] = [
     ('B', &[1, 2, 3, 4, 5, 6, 7, 9, 10, 11]),
     ('S', &[1, 7, 12, 13]),
     ('R', &[2, 3, 4, 5, 6, 7, 9]),
@@ -315,6 +326,7 @@ pub const CAN_REFUSE: [(char, &[u32]); 11] = [
     ('g', &[2, 3, 4, 5, 6, 7, 9]),
     ('V', &[2, 3, 4, 5, 6, 7, 8, 9, 14]),
     ('T', &[6, 7, 8, 14]),
+    ('L', &[1]),
 ];
 
 /// How often each answer came: by operation and refusal number, 0 standing

@@ -22,7 +22,10 @@ fn text_of(input: &mut Input) -> Option<&mut Text> {
         | Input::PageProgram { text }
         | Input::ReadValues { text, .. }
         | Input::WriteValues { text, .. } => Some(text),
-        Input::Settle { .. } | Input::Write { .. } | Input::WritePage { .. } => None,
+        Input::Settle { .. }
+        | Input::Write { .. }
+        | Input::WritePage { .. }
+        | Input::CurvesLength { .. } => None,
     }
 }
 
@@ -54,7 +57,7 @@ fn there_are_enough_cases_and_they_are_small() {
     let cases = all_cases(1);
     assert!(cases.len() >= 2000);
     let answers: usize = answers(&cases).iter().map(|one| one.line().len() + 1).sum();
-    assert!(encode(&cases).len() + answers < 6_000_000);
+    assert!(encode(&cases).len() + answers < 7_000_000);
     for case in &cases {
         if let Some(text) = text_of(&mut case.input.clone()) {
             assert!(text.bytes().len() <= 1_048_577, "{}", case.label);
@@ -187,6 +190,7 @@ fn refusals_come_at_the_first_a_middle_and_the_last_line() {
         ('T', 8, 45),
         ('T', 8, 36_864),
         ('T', 14, 0),
+        ('L', 1, 0),
     ] {
         assert!(lines.contains(&place), "{place:?}");
     }

@@ -16,6 +16,7 @@ extern "C" {
     /// The curve set is VOLL, X, then 24 pairs mu, sigma.
     fn ordc_settle(record: *const i64, voll: i64, floor: i64, curves: *mut i64) -> CRefusal;
     fn ordc_read_curves(text: *const u8, length: usize, curves: *mut i64) -> CRefusal;
+    fn ordc_curves_length(curves: *const i64, length: *mut usize) -> CRefusal;
     fn ordc_write_curves(
         curves: *const i64,
         buffer: *mut u8,
@@ -95,6 +96,10 @@ impl Library for Linked {
 
     fn read_curves(&self, text: &[u8], curves: &mut Curves) -> Refusal {
         unsafe { ordc_read_curves(text.as_ptr(), text.len(), curves.as_mut_ptr()) }.into()
+    }
+
+    fn curves_length(&self, curves: &Curves, length: &mut usize) -> Refusal {
+        unsafe { ordc_curves_length(curves.as_ptr(), length) }.into()
     }
 
     fn write_curves(&self, curves: &Curves, buffer: &mut [u8], written: &mut i64) -> Refusal {

@@ -12,7 +12,7 @@ const MOST_HOURS: i64 = 1000;
 
 /// A random input.
 pub fn input(random: &mut Random) -> Input {
-    match random.bits() % 30 {
+    match random.bits() % 31 {
         0..=5 => book(random),
         6..=8 => settle(random),
         9..=11 => read(random),
@@ -21,6 +21,7 @@ pub fn input(random: &mut Random) -> Input {
         22..=24 => read_values(random),
         25 | 26 => values_length(random),
         27..=29 => write_values(random),
+        30 => curves_length(random),
         _ => price(random),
     }
 }
@@ -235,6 +236,52 @@ fn write(random: &mut Random) -> Input {
         _ => (fits as i64 + random.within(-2, 2)) as usize,
     };
     Input::Write { curves, length }
+}
+
+/// The range of each number of a curve set.
+fn range(place: usize) -> (i64, i64) {
+    match place {
+        0 => (0, 2_000_000),
+        1 => (0, 20_000_000),
+        _ if place % 2 == 1 => (1, 20_000_000),
+        _ => (-20_000_000, 20_000_000),
+    }
+}
+
+/// The greatest number of some number of digits, or the least with one digit
+/// more; as often as not below 0.
+fn edge(random: &mut Random) -> i64 {
+    let power = 10_i64.pow(random.within(0, 8) as u32);
+    let size = power - random.within(0, 1);
+    if random.one_in(2) {
+        -size
+    } else {
+        size
+    }
+}
+
+/// A curve set in its ranges whose numbers often are where a digit more begins.
+/// Where all of them are alike, its text can be the shortest or the longest.
+pub fn curves_of_all_lengths(random: &mut Random) -> Curves {
+    let mut curves = curves(random);
+    let alike = random.one_in(4).then(|| edge(random));
+    for (place, number) in curves.iter_mut().enumerate() {
+        let (low, high) = range(place);
+        let own = random.one_in(2).then(|| edge(random));
+        if let Some(edge) = alike.or(own) {
+            let edge = if low < 0 { edge } else { edge.abs() };
+            *number = edge.clamp(low, high);
+        }
+    }
+    curves
+}
+
+fn curves_length(random: &mut Random) -> Input {
+    let mut curves = curves_of_all_lengths(random);
+    if random.one_in(5) {
+        damage_curves(random, &mut curves);
+    }
+    Input::CurvesLength { curves }
 }
 
 /// How far above X the probabilities of a page's row stand, in kW.

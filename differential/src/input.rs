@@ -43,6 +43,9 @@ pub enum Input {
         held: Held,
         length: usize,
     },
+    CurvesLength {
+        curves: Curves,
+    },
 }
 
 impl Input {
@@ -58,11 +61,12 @@ impl Input {
             Input::ReadSnapshot { .. } => 6,
             Input::SnapshotLength { .. } => 7,
             Input::WriteSnapshot { .. } => 8,
+            Input::CurvesLength { .. } => 9,
         }
     }
 }
 
-const OPERATIONS: usize = 9;
+const OPERATIONS: usize = 10;
 
 /// The operations, with the refusal numbers that each can give.
 pub const CAN_REFUSE: [(&str, &[u64]); OPERATIONS] = [
@@ -75,6 +79,7 @@ pub const CAN_REFUSE: [(&str, &[u64]); OPERATIONS] = [
     ("read_snapshot", &[2, 3, 4, 5, 6, 7, 8, 9, 14]),
     ("snapshot_length", &[6, 7, 8]),
     ("write_snapshot", &[6, 7, 8, 14]),
+    ("curves_length", &[1]),
 ];
 
 /// Everything that a call gives back or may have changed.
@@ -186,6 +191,11 @@ pub fn run(library: &dyn Library, input: &Input) -> Outcome {
                 numbers: vec![written as i64],
                 buffer,
             }
+        }
+        Input::CurvesLength { curves } => {
+            let mut length = LENGTH_BEFORE;
+            let refusal = library.curves_length(curves, &mut length);
+            outcome(refusal, &[length as i64])
         }
     }
 }
@@ -317,6 +327,7 @@ pub fn show(input: &Input) -> String {
             show_held(&mut out, held);
             writeln!(out, "  buffer of {length} bytes").unwrap();
         }
+        Input::CurvesLength { curves } => show_curves(&mut out, curves),
     }
     out
 }

@@ -4,9 +4,11 @@
 //! compared with the reference's. An input on which they differ is made as
 //! small as it can be. [`order`] checks, on random pairs of histories and
 //! snapshots, that more reserve never raises a price, [`page`], on random curve
-//! sets, what a reader of a page relies on, and [`trip`], on random values of a
-//! snapshot, that they are written and read back.
+//! sets, what a reader of a page relies on, [`trip`], on random values of a
+//! snapshot, that they are written and read back, and [`curve_trip`] the same on
+//! random curve sets.
 
+pub mod curve_trip;
 mod damage;
 #[cfg(feature = "ordc")]
 mod ffi;
@@ -65,6 +67,7 @@ pub trait Library {
     fn settle(&self, record: &RecordNumbers, voll: i64, floor: i64, curves: &mut Curves)
         -> Refusal;
     fn read_curves(&self, text: &[u8], curves: &mut Curves) -> Refusal;
+    fn curves_length(&self, curves: &Curves, length: &mut usize) -> Refusal;
     fn write_curves(&self, curves: &Curves, buffer: &mut [u8], written: &mut i64) -> Refusal;
     fn price(&self, curves: &Curves, text: &[u8], answer: &mut Answer) -> Refusal;
     fn write_page(&self, curves: &Curves, buffer: &mut [u8]) -> Refusal;

@@ -1,7 +1,9 @@
 //! `differential [--seed N] [--inputs N] [--from N] [--pairs N] [--pages N] [--trips N] [--long]`
 
 use differential::order::{self, Counts, SNAPSHOTS};
-use differential::{input, page, run, show, shrink, trip, Library, Outcome, Plain, Random, Tally};
+use differential::{
+    curve_trip, input, page, run, show, shrink, trip, Library, Outcome, Plain, Random, Tally,
+};
 use std::process::ExitCode;
 use std::time::{Instant, SystemTime, UNIX_EPOCH};
 
@@ -12,7 +14,7 @@ const USAGE: &str = "usage: differential [--seed N] [--inputs N] [--from N] [--p
   --from N    the place of the first input (0)
   --pairs N   so many pairs of histories and snapshots (20000)
   --pages N   so many pages (5000)
-  --trips N   so many round trips (5000)
+  --trips N   so many round trips of snapshots, and of curve sets (5000)
   --long      twenty times as many of all four";
 
 struct Options {
@@ -42,7 +44,8 @@ fn main() -> ExitCode {
     let ordered = pairs(&library, &options);
     let readable = pages(&library, &options);
     let same = trips(&library, &options);
-    if agree && ordered && readable && same {
+    let same_curves = curve_trips(&library, &options);
+    if agree && ordered && readable && same && same_curves {
         println!("passed");
         ExitCode::SUCCESS
     } else {
@@ -242,6 +245,41 @@ fn trips(library: &dyn Library, options: &Options) -> bool {
     let telling = resources > 0 && disturbed > 0 && priced > 0;
     if options.trips > 0 && !telling {
         println!("no round trip was telling");
+    }
+    telling || options.trips == 0
+}
+
+/// Runs the round trips of curve sets; true if nothing is broken and some were
+/// telling.
+fn curve_trips(library: &dyn Library, options: &Options) -> bool {
+    let start = Instant::now();
+    let mut counts = curve_trip::Counts::default();
+    // Its own numbers, whatever the number of all others.
+    let seed = Random::at(options.seed, u64::MAX - 3).bits();
+    for place in 0..options.trips {
+        match curve_trip::check(library, &mut Random::at(seed, place)) {
+            Ok(more) => counts.add(&more),
+            Err(broken) => {
+                print!("round trip {place} of a curve set: {broken}");
+                return false;
+            }
+        }
+    }
+    let seconds = start.elapsed().as_secs_f64();
+    let curve_trip::Counts {
+        trips,
+        negative,
+        shortest,
+        longest,
+    } = counts;
+    println!(
+        "{trips} round trips of curve sets in {seconds:.1} s, each text of the length that was \
+         told; {negative} with a mean below 0, {shortest} of the shortest text, {longest} of the \
+         longest"
+    );
+    let telling = negative > 0 && shortest > 0 && longest > 0;
+    if options.trips > 0 && !telling {
+        println!("no round trip of a curve set was telling");
     }
     telling || options.trips == 0
 }

@@ -82,6 +82,11 @@ impl Library for Plain {
         })
     }
 
+    fn curves_length(&self, curves: &Curves, length: &mut usize) -> Refusal {
+        let told = reference::curves_length(&curve_set(curves));
+        take(told, |told| *length = told)
+    }
+
     fn write_curves(&self, curves: &Curves, buffer: &mut [u8], written: &mut i64) -> Refusal {
         let length = reference::write_curves(&curve_set(curves), buffer);
         take(length, |length| *written = length as i64)

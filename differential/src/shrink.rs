@@ -117,6 +117,9 @@ fn smaller_inputs(input: &Input, found: &mut dyn FnMut(Input) -> bool) -> bool {
                 })
             })
         }
+        Input::CurvesLength { curves } => {
+            smaller_numbers(curves, &mut |curves| found(Input::CurvesLength { curves }))
+        }
     }
 }
 

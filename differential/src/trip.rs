@@ -81,7 +81,7 @@ pub fn check(library: &dyn Library, random: &mut Random) -> Result<Counts, Strin
 }
 
 /// An acceptance, or what was refused.
-fn accepted(what: &str, refusal: Refusal) -> Result<(), String> {
+pub(crate) fn accepted(what: &str, refusal: Refusal) -> Result<(), String> {
     if refusal.accepted() {
         return Ok(());
     }

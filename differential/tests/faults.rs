@@ -2,8 +2,8 @@
 
 use differential::order::{self, Counts};
 use differential::{
-    input, page, run, show, shrink, Answer, Curves, Header, Input, Library, Plain, Random,
-    RecordNumbers, Refusal, Tally,
+    curve_trip, input, page, run, show, shrink, Answer, Curves, Header, Input, Library, Plain,
+    Random, RecordNumbers, Refusal, Tally,
 };
 
 #[derive(Clone, Copy, Debug, PartialEq, Eq)]
@@ -49,7 +49,32 @@ enum Fault {
     PageRising,
     /// The last probability of a page is 0 where X is odd.
     PageOfX,
+    /// The minus of a number is not counted in the length.
+    LengthMinus,
+    /// A number of this size is counted with a digit less in the length.
+    LengthPower(i64),
+    /// The last byte 10 is not counted in the length.
+    LengthLastByte,
+    /// Every text is told the greatest length.
+    LengthGreatest,
+    /// The length is told with a refusal.
+    LengthRefused,
+    /// An impossible set has a length.
+    LengthImpossible,
+    /// A buffer has to be longer than the curve text.
+    TextShort,
+    /// A curve text is ended with a byte 0.
+    TextEnded,
+    /// A curve text is written without its last byte where there is no room for
+    /// it.
+    TextCut,
 }
+
+/// The greatest length of a curve text.
+const TEXT: usize = 700;
+
+/// The sizes at which a number has a digit more.
+const POWERS: [i64; 7] = [10, 100, 1000, 10_000, 100_000, 1_000_000, 10_000_000];
 
 /// A row with its byte 10, and a page.
 const ROW: usize = 72;
@@ -103,10 +128,55 @@ impl Library for Faulty {
         refusal
     }
 
+    fn curves_length(&self, curves: &Curves, length: &mut usize) -> Refusal {
+        let refusal = Plain.curves_length(curves, length);
+        let count = |counted: &dyn Fn(i64) -> bool| {
+            let counted = curves.iter().filter(|&&number| counted(number));
+            counted.count()
+        };
+        match self.0 {
+            Fault::LengthRefused if !refusal.accepted() => *length = 0,
+            Fault::LengthImpossible if !refusal.accepted() => {
+                *length = text(curves).len();
+                return Refusal::NONE;
+            }
+            _ if !refusal.accepted() => {}
+            Fault::LengthMinus => *length -= count(&|number| number < 0),
+            Fault::LengthPower(power) => *length -= count(&|number| number.abs() == power),
+            Fault::LengthLastByte => *length -= 1,
+            Fault::LengthGreatest => *length = TEXT,
+            _ => {}
+        }
+        refusal
+    }
+
     fn write_curves(&self, curves: &Curves, buffer: &mut [u8], written: &mut i64) -> Refusal {
+        let before = (buffer.to_vec(), *written);
         let refusal = Plain.write_curves(curves, buffer, written);
-        if self.0 == Fault::Buffer && refusal.number == 14 && !buffer.is_empty() {
-            buffer[0] = b'v';
+        match self.0 {
+            Fault::Buffer if refusal.number == 14 && !buffer.is_empty() => buffer[0] = b'v',
+            Fault::TextShort if refusal.accepted() && *written == buffer.len() as i64 => {
+                buffer.copy_from_slice(&before.0);
+                *written = before.1;
+                return Refusal {
+                    number: 14,
+                    line: 0,
+                };
+            }
+            Fault::TextEnded if refusal.accepted() => {
+                if let Some(next) = buffer.get_mut(*written as usize) {
+                    *next = 0;
+                }
+            }
+            Fault::TextCut if refusal.number == 14 => {
+                let text = text(curves);
+                if buffer.len() + 1 == text.len() {
+                    buffer.copy_from_slice(&text[..buffer.len()]);
+                    *written = buffer.len() as i64;
+                    return Refusal::NONE;
+                }
+            }
+            _ => {}
         }
         refusal
     }
@@ -212,6 +282,18 @@ impl Library for Faulty {
     ) -> Refusal {
         Plain.write_snapshot(header, ids, numbers, buffer, written)
     }
+}
+
+/// The text of any curve set, possible or not.
+fn text(curves: &Curves) -> Vec<u8> {
+    let keys = ["voll", "floor"]
+        .into_iter()
+        .chain(["mu", "sigma"].into_iter().cycle());
+    let lines = keys.zip(curves);
+    let text: String = lines
+        .map(|(key, value)| format!("{key}={value}\n"))
+        .collect();
+    text.into_bytes()
 }
 
 /// The text with rrs 0 in the loads that are not validated.
@@ -432,6 +514,101 @@ fn a_page_that_cannot_be_read_is_told() {
             .find_map(|place| page::check(&Faulty(fault), &mut Random::at(3, place)).err())
             .unwrap();
         assert!(told.contains(reason), "{told}");
+        assert!(told.contains("VOLL"), "{told}");
+    }
+}
+
+/// The curve set of the smallest input found, which asks for the length.
+fn smallest_set(fault: Fault) -> Curves {
+    match smallest(fault) {
+        Input::CurvesLength { curves } => curves,
+        _ => panic!("{fault:?} is in the length"),
+    }
+}
+
+/// The set with the shortest text.
+fn shortest() -> Curves {
+    let mut curves = [0; 50];
+    for sigma in curves[3..].iter_mut().step_by(2) {
+        *sigma = 1;
+    }
+    curves
+}
+
+#[test]
+fn wrong_lengths_are_found() {
+    // Of a set that is as small as can be, one number tells the fault.
+    let telling = |fault: Fault| -> Vec<i64> {
+        let curves = smallest_set(fault);
+        let pairs = curves.into_iter().zip(shortest());
+        pairs
+            .filter(|(number, shortest)| number != shortest)
+            .map(|(number, _)| number)
+            .collect()
+    };
+    assert_eq!(telling(Fault::LengthMinus), [-1]);
+    for power in POWERS {
+        let numbers = telling(Fault::LengthPower(power));
+        assert_eq!(numbers.len(), 1, "{numbers:?}");
+        assert_eq!(numbers[0].abs(), power);
+    }
+    for fault in [Fault::LengthLastByte, Fault::LengthGreatest] {
+        assert_eq!(smallest_set(fault), shortest(), "{fault:?}");
+    }
+}
+
+#[test]
+fn lengths_of_impossible_sets_are_found() {
+    for fault in [Fault::LengthRefused, Fault::LengthImpossible] {
+        let curves = smallest_set(fault);
+        assert_eq!(Plain.curves_length(&curves, &mut 0).number, 1, "{fault:?}");
+    }
+}
+
+#[test]
+fn wrong_curve_texts_are_found() {
+    for fault in [Fault::TextShort, Fault::TextEnded, Fault::TextCut] {
+        assert!(
+            matches!(smallest(fault), Input::Write { .. }),
+            "{fault:?} is in writing"
+        );
+    }
+}
+
+#[test]
+fn round_trips_of_curve_sets_give_the_same() {
+    let mut counts = curve_trip::Counts::default();
+    for place in 0..400 {
+        counts.add(&curve_trip::check(&Plain, &mut Random::at(3, place)).unwrap());
+    }
+    assert_eq!(counts.trips, 400);
+    assert!(200 < counts.negative && counts.negative < 400, "{counts:?}");
+    assert!(counts.shortest > 0, "{counts:?}");
+    assert!(counts.longest > 0, "{counts:?}");
+}
+
+#[test]
+fn a_length_that_is_not_that_of_the_text_is_told() {
+    let powers = POWERS.map(|power| (Fault::LengthPower(power), "written: refused 14 line 0"));
+    for (fault, reason) in powers.into_iter().chain([
+        (Fault::LengthMinus, "written: refused 14 line 0"),
+        (Fault::LengthLastByte, "written: refused 14 line 0"),
+        (
+            Fault::LengthGreatest,
+            "a buffer that is a byte too short is accepted",
+        ),
+        (
+            Fault::TextCut,
+            "a buffer that is a byte too short is accepted",
+        ),
+        (Fault::Buffer, "a refused writing changes something"),
+        (Fault::TextShort, "written: refused 14 line 0"),
+        (Fault::TextEnded, "a byte after the text is changed"),
+    ]) {
+        let told = (0..400)
+            .find_map(|place| curve_trip::check(&Faulty(fault), &mut Random::at(3, place)).err())
+            .unwrap_or_else(|| panic!("{fault:?} is not told"));
+        assert!(told.contains(reason), "{fault:?}: {told}");
         assert!(told.contains("VOLL"), "{told}");
     }
 }

@@ -307,6 +307,10 @@ impl Library for Faulty {
         Plain.read_curves(text, curves)
     }
 
+    fn curves_length(&self, curves: &Curves, length: &mut usize) -> Refusal {
+        Plain.curves_length(curves, length)
+    }
+
     fn write_curves(&self, curves: &Curves, buffer: &mut [u8], written: &mut i64) -> Refusal {
         Plain.write_curves(curves, buffer, written)
     }

@@ -1,6 +1,7 @@
 //! The 24 reserve curves and their text.
 
 use crate::history::GROUPS;
+use crate::snapshot_text::number_length;
 use crate::text::{number, Lines, Refusal};
 use std::io::Write;
 use std::ops::RangeInclusive;
@@ -13,8 +14,14 @@ const SIGMA_RANGE: RangeInclusive<i64> = 1..=20_000_000;
 /// A curve text that is read has at most this many bytes.
 pub(crate) const READ_LIMIT: usize = 4096;
 
-/// A curve text that is written has at most this many bytes.
+/// The greatest length of a written curve text, over all sets in range. Keys,
+/// `=` and byte 10 have 277 bytes; the numbers then have at most 7 (`voll`),
+/// 8 (`floor`) and, in each of 24 pairs, 9 with the `-` (`mu`) and 8 (`sigma`).
 pub const WRITTEN_LIMIT: usize = 700;
+
+/// The least length of a written curve text, over all sets in range: the same
+/// 277 bytes, and one digit on each of the 50 lines.
+pub const WRITTEN_LEAST: usize = 327;
 
 /// VOLL, the floor X, and (mu, sigma) of each group.
 #[derive(Clone, Copy, Debug, PartialEq, Eq)]
@@ -55,8 +62,15 @@ pub fn read_curves(text: &[u8]) -> Result<CurveSet, Refusal> {
     Ok(CurveSet { voll, floor, pairs })
 }
 
-/// Writes the curve text to the front of `buffer` and gives its length.
-/// A refusal leaves the buffer as it was.
+/// The exact length of the curve text, which is not written for it.
+pub fn curves_length(curves: &CurveSet) -> Result<usize, Refusal> {
+    curves.check()?;
+    Ok(text_length(curves))
+}
+
+/// Writes the curve text to the front of `buffer` and gives its length. That
+/// is exactly the one of [`curves_length`], and a buffer of just that length is
+/// long enough. A refusal leaves the buffer as it was.
 pub fn write_curves(curves: &CurveSet, buffer: &mut [u8]) -> Result<usize, Refusal> {
     curves.check()?;
     let text = curve_text(curves);
@@ -69,7 +83,7 @@ pub fn write_curves(curves: &CurveSet, buffer: &mut [u8]) -> Result<usize, Refus
 
 /// The curve text of a checked curve set.
 pub(crate) fn curve_text(curves: &CurveSet) -> Vec<u8> {
-    let mut text = Vec::with_capacity(WRITTEN_LIMIT);
+    let mut text = Vec::with_capacity(text_length(curves));
     let mut line = |key: &str, value: i64| {
         writeln!(text, "{key}={value}").expect("a Vec takes every byte");
     };
@@ -80,4 +94,16 @@ pub(crate) fn curve_text(curves: &CurveSet) -> Vec<u8> {
         line("sigma", sigma);
     }
     text
+}
+
+/// The length of that text. It is counted apart from the writer, so that each
+/// is a check of the other.
+fn text_length(curves: &CurveSet) -> usize {
+    // The two more are the `=` and byte 10.
+    let line = |key: &str, value: i64| key.len() + number_length(value) + 2;
+    let mut length = line("voll", curves.voll) + line("floor", curves.floor);
+    for (mu, sigma) in curves.pairs {
+        length += line("mu", mu) + line("sigma", sigma);
+    }
+    length
 }

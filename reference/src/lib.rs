@@ -20,7 +20,10 @@ mod snapshot;
 mod snapshot_text;
 mod text;
 
-pub use curves::{read_curves, write_curves, CurveSet, FLOOR_RANGE, VOLL_RANGE, WRITTEN_LIMIT};
+pub use curves::{
+    curves_length, read_curves, write_curves, CurveSet, FLOOR_RANGE, VOLL_RANGE, WRITTEN_LEAST,
+    WRITTEN_LIMIT,
+};
 pub use held::{held_length, held_text, read_held, write_held, ID_ROW, NUMBER_ROW};
 pub use held_check::snapshot_of_held;
 pub use history::{book, group_of, settle, Group, Record, GROUPS};

@@ -133,7 +133,7 @@ fn push_number(text: &mut Vec<u8>, number: i64) {
 }
 
 /// How many bytes the number has in a text.
-fn number_length(number: i64) -> usize {
+pub(crate) fn number_length(number: i64) -> usize {
     let digits = number.unsigned_abs().checked_ilog10().unwrap_or(0) + 1;
     usize::from(number < 0) + digits as usize
 }

@@ -3,7 +3,8 @@
 mod common;
 use common::*;
 use reference::{
-    pi_ns, price_snapshot, read_curves, write_curves, CurveSet, Refusal, GROUPS, WRITTEN_LIMIT,
+    curves_length, pi_ns, price_snapshot, read_curves, write_curves, CurveSet, Refusal, GROUPS,
+    WRITTEN_LEAST, WRITTEN_LIMIT,
 };
 
 fn read(text: &str) -> Result<CurveSet, Refusal> {
@@ -17,6 +18,47 @@ fn mixed_curves() -> CurveSet {
         floor: 0,
         pairs: std::array::from_fn(|index| (index as i64 * 1000 - 9000, index as i64 + 1)),
     }
+}
+
+/// Curves with the shortest text.
+fn shortest_curves() -> CurveSet {
+    CurveSet {
+        voll: 0,
+        floor: 0,
+        pairs: [(0, 1); GROUPS],
+    }
+}
+
+/// Curves with the longest text.
+fn longest_curves() -> CurveSet {
+    CurveSet {
+        voll: 2_000_000,
+        floor: 20_000_000,
+        pairs: [(-20_000_000, 20_000_000); GROUPS],
+    }
+}
+
+/// The curves with another pair in this group.
+fn with_pair(mut curves: CurveSet, group: usize, pair: (i64, i64)) -> CurveSet {
+    curves.pairs[group] = pair;
+    curves
+}
+
+/// The length told beforehand. The text must have just that length, and so
+/// must the shortest buffer that takes it.
+fn length_of(curves: &CurveSet) -> usize {
+    let length = curves_length(curves).unwrap();
+    let mut exact = vec![0xAA; length];
+    assert_eq!(write_curves(curves, &mut exact), Ok(length));
+    assert_eq!(read_curves(&exact), Ok(*curves));
+    let mut short = vec![0xAA; length - 1];
+    assert_eq!(write_curves(curves, &mut short), refusal(14, 0));
+    assert!(short.iter().all(|&byte| byte == 0xAA));
+    let mut long = vec![0xAA; length + 1];
+    assert_eq!(write_curves(curves, &mut long), Ok(length));
+    assert_eq!(long[..length], exact);
+    assert_eq!(long[length], 0xAA);
+    length
 }
 
 #[test]
@@ -33,15 +75,105 @@ fn what_is_written_is_read() {
 
 #[test]
 fn the_longest_text_has_700_bytes() {
-    let longest = CurveSet {
-        voll: 2_000_000,
-        floor: 20_000_000,
-        pairs: [(-20_000_000, 20_000_000); GROUPS],
-    };
+    let longest = longest_curves();
     let mut buffer = [7; 701];
     assert_eq!(write_curves(&longest, &mut buffer), Ok(700));
     assert_eq!(buffer[700], 7);
     assert_eq!(read_curves(&buffer[..700]), Ok(longest));
+}
+
+/// Without their numbers the lines `voll=`, `floor=`, `mu=` and `sigma=` have
+/// 6, 7, 4 and 7 bytes with byte 10, the text 6 + 7 + 24 × (4 + 7) = 277.
+#[test]
+fn the_length_of_whole_sets() {
+    // One digit on each of 50 lines: 277 + 50.
+    assert_eq!(length_of(&shortest_curves()), 327);
+    assert_eq!(WRITTEN_LEAST, 327);
+    // 277 + 7 + 8 + 24 × (9 + 8), the 9 with the sign.
+    assert_eq!(length_of(&longest_curves()), 700);
+    assert_eq!(WRITTEN_LIMIT, 700);
+    // The same without the 24 signs.
+    let unsigned = CurveSet {
+        pairs: [(20_000_000, 20_000_000); GROUPS],
+        ..longest_curves()
+    };
+    assert_eq!(length_of(&unsigned), 676);
+    // The worked example: 277 + 6 + 7 + 24 × (1 + 7).
+    assert_eq!(length_of(&example_curves()), 482);
+    // Means -9000..-1000, 0, 1000..9000 and 10000..14000 in steps of 1000 have
+    // 9 × 5 + 1 + 9 × 4 + 5 × 5 = 107 bytes, spreads 1..24 have 9 + 15 × 2 = 39:
+    // 277 + 1 + 1 + 107 + 39.
+    assert_eq!(length_of(&mixed_curves()), 425);
+}
+
+#[test]
+fn the_length_at_every_number_of_digits() {
+    // The least and the greatest numbers of each number of digits, as far as
+    // they are in range.
+    let numbers: [(usize, &[i64]); 8] = [
+        (1, &[1, 9]),
+        (2, &[10, 99]),
+        (3, &[100, 999]),
+        (4, &[1000, 9999]),
+        (5, &[10_000, 99_999]),
+        (6, &[100_000, 999_999]),
+        (7, &[1_000_000, 2_000_000, 9_999_999]),
+        (8, &[10_000_000, 20_000_000]),
+    ];
+    // The number stands in for one digit of the shortest text's 327 bytes.
+    let shortest = shortest_curves();
+    for (digits, numbers) in numbers {
+        let length = 326 + digits;
+        for &number in numbers {
+            if number <= 2_000_000 {
+                let with_voll = CurveSet {
+                    voll: number,
+                    ..shortest
+                };
+                assert_eq!(length_of(&with_voll), length, "voll {number}");
+            }
+            let with_floor = CurveSet {
+                floor: number,
+                ..shortest
+            };
+            assert_eq!(length_of(&with_floor), length, "floor {number}");
+            for group in 0..GROUPS {
+                let length_with = |pair| length_of(&with_pair(shortest, group, pair));
+                assert_eq!(length_with((number, 1)), length, "mu {number}");
+                assert_eq!(length_with((-number, 1)), length + 1, "mu -{number}");
+                assert_eq!(length_with((0, number)), length, "sigma {number}");
+            }
+        }
+    }
+}
+
+impl Random {
+    /// A number 0..`most`. It is drawn with up to so many digits, 1..8, so that
+    /// short numbers are no rarity.
+    fn number(&mut self, most: u64) -> i64 {
+        let digits = 1 + self.below(8) as u32;
+        (self.below(10_u64.pow(digits)) % (most + 1)) as i64
+    }
+
+    fn curves(&mut self) -> CurveSet {
+        CurveSet {
+            voll: self.number(2_000_000),
+            floor: self.number(20_000_000),
+            pairs: std::array::from_fn(|_| {
+                let sign = if self.below(2) == 0 { 1 } else { -1 };
+                (sign * self.number(20_000_000), 1 + self.number(19_999_999))
+            }),
+        }
+    }
+}
+
+#[test]
+fn the_length_of_many_sets() {
+    let mut random = Random(1);
+    for _ in 0..500 {
+        let length = length_of(&random.curves());
+        assert!((WRITTEN_LEAST..=WRITTEN_LIMIT).contains(&length));
+    }
 }
 
 #[test]
@@ -67,11 +199,6 @@ fn refusal_14_leaves_the_buffer() {
 #[test]
 fn refusal_1_of_curves() {
     let good = example_curves();
-    let with_pair = |index: usize, pair: (i64, i64)| {
-        let mut curves = good;
-        curves.pairs[index] = pair;
-        curves
-    };
     let impossible = [
         CurveSet { voll: -1, ..good },
         CurveSet {
@@ -83,15 +210,16 @@ fn refusal_1_of_curves() {
             floor: 20_000_001,
             ..good
         },
-        with_pair(0, (-20_000_001, 1)),
-        with_pair(23, (20_000_001, 1)),
-        with_pair(23, (0, 0)),
-        with_pair(7, (0, -1)),
-        with_pair(0, (0, 20_000_001)),
-        with_pair(11, (i64::MIN, i64::MAX)),
+        with_pair(good, 0, (-20_000_001, 1)),
+        with_pair(good, 23, (20_000_001, 1)),
+        with_pair(good, 23, (0, 0)),
+        with_pair(good, 7, (0, -1)),
+        with_pair(good, 0, (0, 20_000_001)),
+        with_pair(good, 11, (i64::MIN, i64::MAX)),
     ];
     for curves in impossible {
         let mut buffer = [0xAA; 800];
+        assert_eq!(curves_length(&curves), refusal(1, 0));
         assert_eq!(write_curves(&curves, &mut buffer), refusal(1, 0));
         assert_eq!(buffer, [0xAA; 800]);
         // 1 comes before 14, and before 2 at pricing.

@@ -264,18 +264,7 @@ fn longest() -> Held {
     held
 }
 
-/// Numbers that look random and are the same in every run.
-struct Random(u64);
-
 impl Random {
-    fn below(&mut self, limit: u64) -> u64 {
-        self.0 = self
-            .0
-            .wrapping_mul(6_364_136_223_846_793_005)
-            .wrapping_add(1);
-        (self.0 >> 33) % limit
-    }
-
     /// A number of the range, its ends more often than others.
     fn number(&mut self, (low, high): (i64, i64)) -> i64 {
         match self.below(8) {

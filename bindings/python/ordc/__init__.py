@@ -20,7 +20,7 @@ from ._library import GROUPS
 from ._refusals import EXPLANATIONS, Refused
 from ._values import CurveSet, Group, Pair, Prices, Record
 from ._snapshot import ControllableLoad, Generator, GeneratorKind, OtherLoad, Resource, Snapshot, Status
-from ._operations import book, price, read_curves, settle, write_curves, write_page
+from ._operations import book, curves_length, price, read_curves, settle, write_curves, write_page
 
 __all__ = [
     "GROUPS",
@@ -41,6 +41,7 @@ __all__ = [
     "book",
     "settle",
     "read_curves",
+    "curves_length",
     "write_curves",
     "write_page",
     "price",

@@ -9,7 +9,6 @@ GROUPS = 24
 RECORD = 72
 CURVES = 50
 ANSWER = 6
-CURVE_TEXT = 700
 PAGE = 1728
 HEADER = 8
 ID_ROW = 32
@@ -51,6 +50,7 @@ def _load() -> ctypes.CDLL:
         "ordc_book": [pointer(RecordArray), text, size],
         "ordc_settle": [pointer(RecordArray), ctypes.c_int64, ctypes.c_int64, pointer(CurvesArray)],
         "ordc_read_curves": [text, size, pointer(CurvesArray)],
+        "ordc_curves_length": [pointer(CurvesArray), pointer(ctypes.c_size_t)],
         "ordc_write_curves": [pointer(CurvesArray), ctypes.c_char_p, size, pointer(ctypes.c_size_t)],
         "ordc_write_page": [pointer(CurvesArray), ctypes.c_char_p, size],
         "ordc_price": [pointer(CurvesArray), text, size, pointer(AnswerArray)],

@@ -1,8 +1,8 @@
-"""The six operations. Each raises Refused where it refuses its input."""
+"""The seven operations. Each raises Refused where it refuses its input."""
 
 import ctypes
 
-from ._library import CURVE_TEXT, PAGE, AnswerArray, CurvesArray, library
+from ._library import PAGE, AnswerArray, CurvesArray, library
 from ._refusals import check
 from ._values import CurveSet, Prices, Record, _fitting
 
@@ -29,12 +29,24 @@ def read_curves(text: bytes) -> CurveSet:
     return CurveSet._of(array)
 
 
+def curves_length(curves: CurveSet) -> int:
+    """The length of a curve set's text in bytes, 327 to 700. Refusals: 1."""
+    return _length(curves._array())
+
+
 def write_curves(curves: CurveSet) -> bytes:
-    """The text of a curve set. Refusals: 1."""
-    buffer = ctypes.create_string_buffer(CURVE_TEXT)
+    """The text of a curve set, which has exactly `curves_length` bytes. Refusals: 1."""
+    array = curves._array()
+    buffer = ctypes.create_string_buffer(_length(array))
     written = ctypes.c_size_t()
-    check(library.ordc_write_curves(ctypes.byref(curves._array()), buffer, CURVE_TEXT, ctypes.byref(written)))
-    return buffer.raw[: written.value]
+    check(library.ordc_write_curves(ctypes.byref(array), buffer, len(buffer), ctypes.byref(written)))
+    return buffer.raw
+
+
+def _length(array: CurvesArray) -> int:
+    length = ctypes.c_size_t()
+    check(library.ordc_curves_length(ctypes.byref(array), ctypes.byref(length)))
+    return length.value
 
 
 def write_page(curves: CurveSet) -> bytes:

@@ -5,6 +5,7 @@ import pathlib
 import re
 import threading
 import unittest
+from unittest import mock
 
 import ordc
 from ordc import _library
@@ -56,6 +57,43 @@ HOUR = (
 # The months of each season and the hour endings of each block, as they are posted; hour h is hour ending h + 1.
 SEASONS = ((12, 1, 2), (3, 4, 5), (6, 7, 8), (9, 10, 11))
 POSTED = ((23, 24, 1, 2), (3, 4, 5, 6), (7, 8, 9, 10), (11, 12, 13, 14), (15, 16, 17, 18), (19, 20, 21, 22))
+# Means and spreads on both sides of each power of ten, in rows of four. Above a row stand the bytes of its means and
+# spreads, the sign counted, and their sum.
+POWERS = (
+    # 2 + 1, 3 + 1, 3 + 2, 4 + 2: 18
+    (-9, 1), (-10, 9), (-99, 10), (-100, 99),
+    # 4 + 3, 5 + 3, 5 + 4, 6 + 4: 34
+    (-999, 100), (-1000, 999), (-9999, 1000), (-10000, 9999),
+    # 6 + 5, 7 + 5, 7 + 6, 8 + 6: 50
+    (-99999, 10000), (-100000, 99999), (-999999, 100000), (-1000000, 999999),
+    # 8 + 7, 9 + 7, 1 + 8, 2 + 8: 50
+    (-9999999, 1000000), (-10000000, 9999999), (9, 10000000), (10, 19999999),
+    # 2 + 1, 3 + 2, 3 + 2, 4 + 3: 20
+    (99, 9), (100, 10), (999, 99), (1000, 100),
+    # 4 + 3, 5 + 4, 1 + 1, 2 + 1: 21
+    (9999, 999), (10000, 1000), (0, 1), (-1, 1),
+)
+# VOLL, X and the pairs of curve sets, each with the length of its text, worked out by hand. Keys, `=` and byte 10 have
+# 277 bytes: `voll=` 6 and `floor=` 7 with byte 10, and in each of the 24 groups `mu=` 4 and `sigma=` 7. The rest are
+# the bytes of the 50 numbers, the sign counted.
+LENGTHS = (
+    # the shortest: 277 + 50
+    (0, 0, ((0, 1),) * 24, 327),
+    # the longest: 277 + 7 + 8 + 24 * (9 + 8)
+    (2000000, 20000000, ((-20000000, 20000000),) * 24, 700),
+    # the listing: 277 + 6 + 7 + 24 * (1 + 7)
+    (900000, 2000000, ((0, 1000000),) * 24, 482),
+    # 277 + 1 + 8 + 18 + 34 + 50 + 50 + 20 + 21
+    (9, 10000000, POWERS, 479),
+)
+
+
+def sets_and_lengths():
+    """The curve sets of LENGTHS, each with its text and the text's length."""
+    for voll, floor, pairs, length in LENGTHS:
+        lines = b"".join(b"mu=%d\nsigma=%d\n" % pair for pair in pairs)
+        curves = ordc.CurveSet(voll, floor, tuple(ordc.Pair(*pair) for pair in pairs))
+        yield curves, b"voll=%d\nfloor=%d\n" % (voll, floor) + lines, length
 
 
 def hour(group: int, error: int) -> bytes:
@@ -142,6 +180,43 @@ class Operations(unittest.TestCase):
     def test_written_back(self):
         self.assertEqual(ordc.write_curves(ordc.read_curves(CURVES)), CURVES)
 
+    def test_lengths_worked_out_by_hand(self):
+        for curves, text, length in sets_and_lengths():
+            with self.subTest(length=length):
+                self.assertEqual(ordc.curves_length(curves), length)
+                self.assertEqual(ordc.write_curves(curves), text)
+                self.assertEqual(len(text), length)
+
+    def test_nothing_set_aside_lies_unused(self):
+        for curves, _, length in sets_and_lengths():
+            with mock.patch("ctypes.create_string_buffer", wraps=ctypes.create_string_buffer) as made:
+                ordc.write_curves(curves)
+            made.assert_called_once_with(length)
+
+    def test_curve_text_buffers(self):
+        # write_curves lends a buffer of just the text's length; shorter and longer ones go to the library's function.
+        def written(curves: ordc.CurveSet, size: int) -> tuple:
+            buffer = ctypes.create_string_buffer(b"x" * 1000, 1000)
+            length = ctypes.c_size_t(77)
+            lent = (ctypes.byref(curves._array()), buffer, size, ctypes.byref(length))
+            refusal = _library.library.ordc_write_curves(*lent)
+            return refusal.number, refusal.line, length.value, buffer.raw
+
+        for curves, text, length in sets_and_lengths():
+            for size in (0, 1, length - 1):
+                self.assertEqual(written(curves, size), (14, 0, 77, b"x" * 1000))
+            for size in (length, length + 1, 1000):
+                self.assertEqual(written(curves, size), (0, 0, length, text.ljust(1000, b"x")))
+            # 1 comes before 14
+            for size in (0, length - 1, length, 1000):
+                self.assertEqual(written(with_pair(curves, 23, 0, 0), size), (1, 0, 77, b"x" * 1000))
+
+    def test_refused_length_stays(self):
+        curves = with_pair(ordc.read_curves(CURVES), 23, 0, 0)
+        length = ctypes.c_size_t(77)
+        refusal = _library.library.ordc_curves_length(ctypes.byref(curves._array()), ctypes.byref(length))
+        self.assertEqual((refusal.number, refusal.line, length.value), (1, 0, 77))
+
     def test_page_of_the_listing(self):
         self.assertEqual(len(LISTING_PAGE), 1728)
         self.assertEqual(ordc.write_page(ordc.read_curves(CURVES)), LISTING_PAGE)
@@ -162,7 +237,7 @@ class Operations(unittest.TestCase):
         first = LISTING_PAGE.splitlines(keepends=True)[:3]
         self.assertIn(b"".join(b"    " + row for row in first), README)
 
-    def test_impossible_sets_have_no_page(self):
+    def test_impossible_sets_have_neither_text_nor_page(self):
         curves = ordc.read_curves(CURVES)
         impossible = [ordc.CurveSet(voll, 0, curves.pairs) for voll in (-1, 2000001)]
         impossible += [ordc.CurveSet(0, floor, curves.pairs) for floor in (-1, 20000001)]
@@ -170,6 +245,8 @@ class Operations(unittest.TestCase):
             impossible += [with_pair(curves, group, mean, 1) for mean in (-20000001, 20000001)]
             impossible += [with_pair(curves, group, 0, spread) for spread in (-1, 0, 20000001)]
         for curves in impossible:
+            self.refused(1, 0, ordc.curves_length, curves)
+            self.refused(1, 0, ordc.write_curves, curves)
             self.refused(1, 0, ordc.write_page, curves)
 
     def test_page_buffers(self):
@@ -196,6 +273,7 @@ class Operations(unittest.TestCase):
         full = ordc.Record((ordc.Group(1000, 0, 0),) + (ordc.Group(),) * 23)
         self.refused(1, 0, ordc.book, below, hour(0, 0))
         self.refused(1, 0, ordc.settle, below, 0, 0)
+        self.refused(1, 0, ordc.curves_length, ordc.CurveSet(-1, 0, curves.pairs))
         self.refused(1, 0, ordc.write_curves, ordc.CurveSet(-1, 0, curves.pairs))
         self.refused(1, 0, ordc.write_page, ordc.CurveSet(-1, 0, curves.pairs))
         self.refused(1, 0, ordc.price, ordc.CurveSet(-1, 0, curves.pairs), LISTING)
@@ -219,8 +297,9 @@ class Operations(unittest.TestCase):
     def test_numbers_that_do_not_fit(self):
         with self.assertRaises(OverflowError):
             ordc.settle(ordc.Record(), 2**63, 0)
-        with self.assertRaises(OverflowError):
-            ordc.write_page(ordc.CurveSet(2**64, 0, ordc.read_curves(CURVES).pairs))
+        for operation in (ordc.curves_length, ordc.write_curves, ordc.write_page):
+            with self.assertRaises(OverflowError):
+                operation(ordc.CurveSet(2**64, 0, ordc.read_curves(CURVES).pairs))
         with self.assertRaises(ValueError):
             ordc.settle(ordc.Record(()), 0, 0)
 

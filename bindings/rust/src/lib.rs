@@ -13,6 +13,7 @@
 //!     pairs: [ordc::Pair { mean: 0, spread: 1_000_000 }; ordc::GROUPS],
 //! };
 //! let text = curves.to_text()?;
+//! assert_eq!(text.len(), curves.text_length()?);
 //! assert_eq!(ordc::CurveSet::from_text(&text)?, curves);
 //! let page = curves.to_page()?;
 //! let first = b"winter 0         0  1000000  158655254   22750132    1349898      31671\n";
@@ -33,6 +34,9 @@ pub use snapshot::{
 
 /// Four seasons of six four-hour blocks.
 pub const GROUPS: usize = 24;
+
+/// No curve text is longer, so a buffer of this many bytes is enough for any.
+pub const CURVE_TEXT: usize = raw::CURVE_TEXT;
 
 /// Every page has this many bytes: a row of 72 for each group.
 pub const PAGE: usize = raw::PAGE;
@@ -128,18 +132,27 @@ impl CurveSet {
         raw::read_curves(text).map(|values| CurveSet::of(&values))
     }
 
-    /// The curve text, of at most 700 bytes.
+    /// The curve text, which has exactly [`text_length`](CurveSet::text_length) bytes.
     ///
     /// # Errors
     /// 1.
     pub fn to_text(&self) -> Result<Vec<u8>, Refusal> {
-        let mut buffer = vec![0; raw::CURVE_TEXT];
-        let length = self.write_text(&mut buffer)?;
-        buffer.truncate(length);
-        Ok(buffer)
+        let values = self.values();
+        let mut text = vec![0; raw::curves_length(&values)?];
+        raw::write_curves(&values, &mut text)?;
+        Ok(text)
     }
 
-    /// Writes the curve text to the front of a buffer and gives its length; bytes after it stay.
+    /// The length of the curve text in bytes, 327 to 700.
+    ///
+    /// # Errors
+    /// 1.
+    pub fn text_length(&self) -> Result<usize, Refusal> {
+        raw::curves_length(&self.values())
+    }
+
+    /// Writes the curve text to the front of a buffer and gives its length; bytes after it stay. A buffer of just
+    /// [`text_length`](CurveSet::text_length) bytes is enough, and one of [`CURVE_TEXT`] bytes is enough for any set.
     ///
     /// # Errors
     /// 1, 14; the buffer is then as it was.

@@ -23,6 +23,7 @@ extern "C" {
     fn ordc_book(record: *mut i64, text: *const u8, length: usize) -> RawRefusal;
     fn ordc_settle(record: *const i64, voll: i64, floor: i64, curves: *mut i64) -> RawRefusal;
     fn ordc_read_curves(text: *const u8, length: usize, curves: *mut i64) -> RawRefusal;
+    fn ordc_curves_length(curves: *const i64, length: *mut usize) -> RawRefusal;
     fn ordc_write_curves(
         curves: *const i64,
         buffer: *mut u8,
@@ -92,6 +93,12 @@ pub fn read_curves(text: &[u8]) -> Result<[i64; CURVES], Refusal> {
     let mut curves = [0; CURVES];
     check(unsafe { ordc_read_curves(text.as_ptr(), text.len(), curves.as_mut_ptr()) })?;
     Ok(curves)
+}
+
+pub fn curves_length(curves: &[i64; CURVES]) -> Result<usize, Refusal> {
+    let mut length = 0;
+    check(unsafe { ordc_curves_length(curves.as_ptr(), &mut length) })?;
+    Ok(length)
 }
 
 pub fn write_curves(curves: &[i64; CURVES], buffer: &mut [u8]) -> Result<usize, Refusal> {

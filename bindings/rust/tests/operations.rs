@@ -1,4 +1,4 @@
-use ordc::{CurveSet, Group, Pair, Prices, Record, Refusal, GROUPS, PAGE};
+use ordc::{CurveSet, Group, Pair, Prices, Record, Refusal, CURVE_TEXT, GROUPS, PAGE};
 
 const LISTING: &str = include_str!("../../python/examples/snapshots/1-listing.txt");
 const ALL_KINDS: &[u8] = include_bytes!("../../python/examples/snapshots/5-all-kinds.txt");
@@ -214,6 +214,129 @@ fn errors_settle_into_curves_and_their_text() {
     assert_eq!(curves().to_text().unwrap(), CURVES);
 }
 
+/// Means and spreads on both sides of each power of ten, in rows of four. Above a row stand the bytes of its means and
+/// spreads, the sign counted, and their sum.
+#[rustfmt::skip]
+const POWERS: [(i64, i64); GROUPS] = [
+    // 2 + 1, 3 + 1, 3 + 2, 4 + 2: 18
+    (-9, 1), (-10, 9), (-99, 10), (-100, 99),
+    // 4 + 3, 5 + 3, 5 + 4, 6 + 4: 34
+    (-999, 100), (-1_000, 999), (-9_999, 1_000), (-10_000, 9_999),
+    // 6 + 5, 7 + 5, 7 + 6, 8 + 6: 50
+    (-99_999, 10_000), (-100_000, 99_999), (-999_999, 100_000), (-1_000_000, 999_999),
+    // 8 + 7, 9 + 7, 1 + 8, 2 + 8: 50
+    (-9_999_999, 1_000_000), (-10_000_000, 9_999_999), (9, 10_000_000), (10, 19_999_999),
+    // 2 + 1, 3 + 2, 3 + 2, 4 + 3: 20
+    (99, 9), (100, 10), (999, 99), (1_000, 100),
+    // 4 + 3, 5 + 4, 1 + 1, 2 + 1: 21
+    (9_999, 999), (10_000, 1_000), (0, 1), (-1, 1),
+];
+
+/// Curve sets and the lengths of their texts, worked out by hand. Keys, `=` and byte 10 have 277 bytes: `voll=` 6 and
+/// `floor=` 7 with byte 10, and in each of the 24 groups `mu=` 4 and `sigma=` 7. The rest are the bytes of the 50
+/// numbers, the sign counted.
+fn sets_and_lengths() -> [(CurveSet, usize); 4] {
+    let set = |voll, floor, pairs: [(i64, i64); GROUPS]| CurveSet {
+        voll,
+        floor,
+        pairs: pairs.map(|(mean, spread)| Pair { mean, spread }),
+    };
+    [
+        // One byte each: 277 + 50.
+        (set(0, 0, [(0, 1); GROUPS]), 327),
+        // 277 + 7 + 8 + 24 * (9 + 8).
+        (
+            set(2_000_000, 20_000_000, [(-20_000_000, 20_000_000); GROUPS]),
+            700,
+        ),
+        // 900000 and 2000000, then 0 and 1000000 in each group: 277 + 6 + 7 + 24 * (1 + 7).
+        (curves(), 482),
+        // 277 + 1 + 8 + 18 + 34 + 50 + 50 + 20 + 21.
+        (set(9, 10_000_000, POWERS), 479),
+    ]
+}
+
+/// The text as docs/FORMAT.md lays it out.
+fn text_of(set: &CurveSet) -> String {
+    let mut text = format!("voll={}\nfloor={}\n", set.voll, set.floor);
+    for Pair { mean, spread } in set.pairs {
+        text.push_str(&format!("mu={mean}\nsigma={spread}\n"));
+    }
+    text
+}
+
+/// The length is told before the text is written, and nothing more than that is set aside for the text.
+#[test]
+fn the_length_of_a_curve_text() {
+    for (set, length) in sets_and_lengths() {
+        assert_eq!(set.text_length(), Ok(length));
+        let text = set.to_text().unwrap();
+        assert_eq!(std::str::from_utf8(&text), Ok(text_of(&set).as_str()));
+        assert_eq!((text.len(), text.capacity()), (length, length));
+    }
+    assert_eq!(CURVE_TEXT, 700);
+}
+
+/// A number adds its own bytes to the length, the sign among them, at each place where it is possible. Here it stands in
+/// the shortest text, of 327 bytes, instead of a number of one byte.
+#[test]
+fn each_number_adds_its_bytes() {
+    let above = [
+        (1, [1, 9]),
+        (2, [10, 99]),
+        (3, [100, 999]),
+        (4, [1_000, 9_999]),
+        (5, [10_000, 99_999]),
+        (6, [100_000, 999_999]),
+        (7, [1_000_000, 2_000_000]),
+        (7, [2_000_001, 9_999_999]),
+        (8, [10_000_000, 20_000_000]),
+    ];
+    let shortest = sets_and_lengths()[0].0;
+    for (bytes, number) in above.iter().flat_map(|(b, ns)| ns.map(|n| (*b, n))) {
+        let length = Ok(326 + bytes);
+        if number <= 2_000_000 {
+            let mut set = shortest;
+            set.voll = number;
+            assert_eq!(set.text_length(), length, "voll={number}");
+        }
+        let mut set = shortest;
+        set.floor = number;
+        assert_eq!(set.text_length(), length, "floor={number}");
+        for group in 0..GROUPS {
+            let mut set = shortest;
+            set.pairs[group].spread = number;
+            assert_eq!(set.text_length(), length, "sigma={number} of {group}");
+            let mut set = shortest;
+            set.pairs[group].mean = number;
+            assert_eq!(set.text_length(), length, "mu={number} of {group}");
+            set.pairs[group].mean = -number;
+            let signed = Ok(326 + 1 + bytes);
+            assert_eq!(set.text_length(), signed, "mu=-{number} of {group}");
+        }
+    }
+}
+
+/// A buffer of just the text's length holds it, and one of one byte less is refused by 14. The bytes before and after,
+/// and a buffer that is refused, are as before.
+#[test]
+fn a_curve_text_takes_just_its_length() {
+    for (set, length) in sets_and_lengths() {
+        for size in [0, 1, length - 1, length, length + 1, CURVE_TEXT] {
+            let mut space = [7; 1000];
+            let answer = set.write_text(&mut space[100..100 + size]);
+            let mut expected = [7; 1000];
+            if size < length {
+                refused(answer, 14, 0);
+            } else {
+                assert_eq!(answer, Ok(length));
+                expected[100..100 + length].copy_from_slice(text_of(&set).as_bytes());
+            }
+            assert_eq!(space, expected, "{size} bytes");
+        }
+    }
+}
+
 fn curves_of_rows(voll: i64, floor: i64) -> CurveSet {
     CurveSet {
         voll,
@@ -255,9 +378,8 @@ fn a_page_takes_1728_bytes() {
     }
 }
 
-/// A number outside its range is refused by 1 before the buffer is looked at, also VOLL and X, which no page shows.
-#[test]
-fn an_impossible_set_has_no_page() {
+/// Sets in each of which one number is outside its range.
+fn impossible_sets() -> Vec<CurveSet> {
     let mut impossible = vec![];
     for voll in [-1, 2_000_001, i64::MIN, i64::MAX] {
         impossible.push(CurveSet { voll, ..curves() });
@@ -278,7 +400,27 @@ fn an_impossible_set_has_no_page() {
             push(0, spread);
         }
     }
-    for set in impossible {
+    impossible
+}
+
+/// A number outside its range is refused by 1: the text has no length and is not written, whatever the buffer.
+#[test]
+fn an_impossible_set_has_no_text() {
+    for set in impossible_sets() {
+        refused(set.text_length(), 1, 0);
+        refused(set.to_text(), 1, 0);
+        for size in [0, 1, 326, 327, 700, 701] {
+            let mut space = [7; 1000];
+            refused(set.write_text(&mut space[100..100 + size]), 1, 0);
+            assert_eq!(space, [7; 1000]);
+        }
+    }
+}
+
+/// A number outside its range is refused by 1 before the buffer is looked at, also VOLL and X, which no page shows.
+#[test]
+fn an_impossible_set_has_no_page() {
+    for set in impossible_sets() {
         refused(set.to_page(), 1, 0);
         for size in [0, 1, 1727, 1728, 1729] {
             let mut space = [7; 2000];
@@ -300,6 +442,15 @@ fn every_refusal() {
             ..curves()
         }
         .to_text(),
+        1,
+        0,
+    );
+    refused(
+        CurveSet {
+            voll: -1,
+            ..curves()
+        }
+        .text_length(),
         1,
         0,
     );

@@ -21,13 +21,11 @@ use Rattle.curve_text.specs.CurveText.{curveFields, curveLines, readCurves, cur
 use Rattle.curve_text.proofs.CurveText.{fifty-lines}
 use Rattle.curve_text.proofs.CurveCases.{text-of-values, text-read}
 use Rattle.curve_text.proofs.CurveInRange.{lines-in-range}
-use Rattle.curve_text.proofs.CurveFields.{curves-sound, curves-fit, text-at-most-700}
+use Rattle.curve_text.proofs.CurveFields.{curves-sound, curves-fit}
+use Rattle.curve_text.proofs.Lengths.{greatest-length}
 use Rattle.curve.specs.FirstRefusal.{ReadingCurvesCase, curves-too-long, curve-line-refused, bytes-after-curves, curves-read}
-use Rattle.curve.specs.Promises.{CurveTextIsReadBack, CurveTextIsWrittenBack, CurveTextIsShort, ReadCurvesAreInRange}
+use Rattle.curve.specs.Promises.{CurveTextIsReadBack, CurveTextIsWrittenBack, ReadCurvesAreInRange}
 use Rattle.curve.proofs.FirstRefusal.{reading-curves-is-refused-first}
-
-pub curve-text-is-short : CurveTextIsShort
-curve-text-is-short = text-at-most-700
 
 -- ---- write then read
 
@@ -35,7 +33,7 @@ pub curve-text-is-read-back : CurveTextIsReadBack
 curve-text-is-read-back curves l e =
     let text : List ℕ = writeFields curveFields (curveValues curves) in
     let same : curveText curves ≡ text = text-of-values curves in
-    let short : length text ≤ 700 = rw same at (curve-text-is-short curves l e) in
+    let short : length text ≤ 700 = rw same at (greatest-length curves l e) in
     let back : curveLines text ≡ record { values = curveValues curves; end = lines.Read (0 + length text) } = rw (append-nil text) at (written-is-read-back ℤ curveFields (curveValues curves) [] [] curves-sound (curves-fit curves l e)) in
     rw same
     (text-read text (omega arith) (0 + length text) (ap (λ (reading : Reading ℤ). reading .end) back) (omega arith)

@@ -19,7 +19,9 @@ use Rattle.curve_set.specs.declared.CurveSet.{CurveSet}
 use Rattle.curve_set.specs.declared.Curves.{Curves}
 use Rattle.curve_text.specs.declared.WrittenCurves.{WrittenCurves}
 use Rattle.curve_text.specs.CurveText.{curveLines, curveText, readCurves, writingCurves, writtenBuffer, writingAnswer, writtenLength}
+use Rattle.curve_text.specs.Length.{curvesLength}
 use Rattle.curve_text.proofs.CurveCases as curve-cases
+use Rattle.curve_text.proofs.Lengths as lengths
 use Rattle.curve_page.specs.Page.{writingPage, pageBuffer}
 use Rattle.curve_page.proofs.PageCases as page-cases
 use Rattle.curve_hour.specs.Hour.{HourAnswer, hourIn, errorAnswer, ownLines, runLines}
@@ -65,13 +67,16 @@ use Rattle.curve.specs.FirstRefusal.{
   set-impossible,
   buffer-short,
   text-written,
+  CurvesLengthCase,
+  length-impossible,
+  length-told,
   PageWriting,
   WritingPageCase,
   page-impossible,
   page-buffer-short,
   page-written,
 }
-use Rattle.curve.specs.Promises.{ReadingHoursIsRefusedFirst, BookingIsRefusedFirst, SettlingIsRefusedFirst, ReadingCurvesIsRefusedFirst, WritingCurvesIsRefusedFirst, WritingPagesIsRefusedFirst}
+use Rattle.curve.specs.Promises.{ReadingHoursIsRefusedFirst, BookingIsRefusedFirst, SettlingIsRefusedFirst, ReadingCurvesIsRefusedFirst, WritingCurvesIsRefusedFirst, CurvesLengthIsRefusedFirst, WritingPagesIsRefusedFirst}
 
 -- ---- an hour's text
 
@@ -312,6 +317,19 @@ writing-only curves buffer other (text-written inside room) =
 
 pub writing-curves-is-refused-first : WritingCurvesIsRefusedFirst
 writing-curves-is-refused-first curves buffer = record { applies = writing-applies curves buffer; only = writing-only curves buffer }
+
+-- ---- the length of a curve text
+
+pub curves-length-is-refused-first : CurvesLengthIsRefusedFirst
+curves-length-is-refused-first curves = record { applies = by-range (curvesInRange curves) refl; only = only }
+  where
+    by-range : (inside : Bool) → curvesInRange curves ≡ inside → CurvesLengthCase curves (curvesLength curves)
+    by-range false e = rw (lengths.length-refused curves e) (length-impossible e)
+    by-range true e = rw (lengths.length-told curves e) (length-told e)
+
+    only : (other : WrittenCurves) → CurvesLengthCase curves other → other ≡ curvesLength curves
+    only other (length-impossible out) = sym (lengths.length-refused curves out)
+    only other (length-told inside) = sym (lengths.length-told curves inside)
 
 -- ---- pages
 

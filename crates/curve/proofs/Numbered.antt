@@ -15,6 +15,8 @@ use Rattle.text_line.proofs.FieldTexts.{OfLines}
 use Rattle.text_schema.specs.Schema.{repeated, keysOf, numberFields}
 use Rattle.text_schema.proofs.Fields.{FieldsNumbered, reading-numbered, numbers-numbered, placed-numbered, repeated-numbered}
 use Rattle.curve_text.specs.CurveText.{curveFields, readCurves, writingCurves, writingAnswer}
+use Rattle.curve_text.specs.Length.{curvesLength}
+use Rattle.curve_text.specs.declared.WrittenCurves.{WrittenCurves}
 use Rattle.curve_page.specs.Page.{writingPage}
 use Rattle.curve_hour.specs.Hour.{hourFields, runFields, ownHour}
 use Rattle.curve_hour.specs.declared.read.ReadHour.{ReadHour}
@@ -53,13 +55,16 @@ use Rattle.curve.specs.FirstRefusal.{
   set-impossible,
   buffer-short,
   text-written,
+  CurvesLengthCase,
+  length-impossible,
+  length-told,
   PageWriting,
   WritingPageCase,
   page-impossible,
   page-buffer-short,
   page-written,
 }
-use Rattle.curve.proofs.FirstRefusal.{booking-is-refused-first, settling-is-refused-first, reading-curves-is-refused-first, writing-curves-is-refused-first, writing-pages-is-refused-first}
+use Rattle.curve.proofs.FirstRefusal.{booking-is-refused-first, settling-is-refused-first, reading-curves-is-refused-first, writing-curves-is-refused-first, curves-length-is-refused-first, writing-pages-is-refused-first}
 use Rattle.curve_hour.proofs.Runs.{runKeys, run-schema}
 use Rattle.curve_hour.proofs.Hours.{hourKeys, hourLows, hourHighs, hour-places}
 use Rattle.curve_text.proofs.CurveText.{curveKeys, curveLows, curveHighs, curve-schema}
@@ -150,6 +155,13 @@ writing-numbered curves buffer = go (writing-curves-is-refused-first curves buff
     go (set-impossible out) = (omega arith, omega arith)
     go (buffer-short inside short) = (omega arith, omega arith)
     go (text-written inside room) = tt
+
+pub length-numbered : (curves : CurveSet) → AnswerNumbered (writingAnswer (curvesLength curves))
+length-numbered curves = go (curves-length-is-refused-first curves .applies)
+  where
+    go : {found : WrittenCurves} → CurvesLengthCase curves found → AnswerNumbered (writingAnswer found)
+    go (length-impossible out) = (omega arith, omega arith)
+    go (length-told inside) = tt
 
 -- ---- pages
 

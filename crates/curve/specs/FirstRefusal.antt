@@ -1,6 +1,6 @@
--- Document 01, "Turned back, in checking order", and document 02, W-201, for the operations on history and curves (demand 1). For each operation a list of cases in checking order:
--- each case says when it applies, which rules out every case above it, and what the operation then answers. The last case of each list is acceptance. An
--- operation's answer is decided by its list: one of the cases applies, so that nothing else is refused, and any case that applies gives that answer.
+-- Document 01, "Turned back, in checking order", and document 02, W-201 and W-205, for the operations on history and curves (demand 1). For each operation a list of
+-- cases in checking order: each case says when it applies, which rules out every case above it, and what the operation then answers. The last case of each list is
+-- acceptance. An operation's answer is decided by its list: one of the cases applies, so that nothing else is refused, and any case that applies gives that answer.
 use Prim.Native.Nat.{ℕ, _≤_, _<_}
 use mathlib.Core.Bool.{true, false}
 use mathlib.Core.List.{List, map}
@@ -20,6 +20,8 @@ use Rattle.text_refusal.specs.declared.answer.Answer.the-variants as answer
 use Rattle.curve_set.specs.declared.CurveSet.{CurveSet}
 use Rattle.curve_set.specs.declared.Curves.{Curves}
 use Rattle.curve_text.specs.CurveText.{curveLines, curveText}
+use Rattle.curve_text.specs.declared.WrittenCurves.{WrittenCurves}
+use Rattle.curve_text.specs.declared.WrittenCurves.the-variants as written
 use Rattle.curve_page.specs.Page.{pageOf}
 use Rattle.curve_hour.specs.Hour.{hourGroup, errorOf, ownLines, ownHour, runLines, ownRuns}
 use Rattle.curve_hour.specs.declared.read.ReadHour.{ReadHour}
@@ -153,6 +155,14 @@ pub data WritingCurvesCase (curves : CurveSet) (buffer : List ℕ) : Writing →
       curvesInRange curves ≡ true → length (curveText curves) ≤ length buffer →
       WritingCurvesCase curves buffer
       (record { answer = answer.Accepted; length = length (curveText curves); buffer = laidAt buffer 0 (curveText curves) })
+
+-- ---- the length of a curve text before it is written: 1
+
+pub data CurvesLengthCase (curves : CurveSet) : WrittenCurves → Type 0 where
+  -- 1: a curve value is out of range
+  length-impossible : curvesInRange curves ≡ false → CurvesLengthCase curves (written.Refused (record { number = 1; line = 0 }))
+  -- accepted: as many bytes as the text has
+  length-told : curvesInRange curves ≡ true → CurvesLengthCase curves (written.Length (length (curveText curves)))
 
 -- ---- writing a page: 1, then 14; a refused write leaves the buffer
 

@@ -1,21 +1,23 @@
 -- What is promised of curves. Demand 1: each operation is refused by the first number in checking order, and by nothing else. Demand 2: one text for each
 -- curve set; read and settled sets are in range, and booked records are possible. For demand 3: lowered errors lower means, and probabilities never rise. And what
--- document 02, W-201, says of the page.
+-- document 02 says of the page (W-201) and of a curve text's length (W-205).
 use Prim.Native.Nat.{ℕ, _*_, _≤_, _<_}
 use mathlib.Core.Path.{_≡_}
 use mathlib.Core.Bool.{true}
 use mathlib.Core.List.{List}
-use lib.IntN.{ℤ, pos, _-ℤ_}
+use lib.IntN.{ℤ, pos, negℤ, _-ℤ_}
 use lib.ListN.{length, take, drop}
 use lib.Signed.{_≤ℤ_}
 use Rattle.text_number.specs.Number.{writtenNumber}
 use Rattle.text_writer.specs.Row.{paddedRight}
 use Rattle.curve_group.specs.Season.{seasonOf, blockOf, groupOf, groupSeason}
-use Rattle.curve_set.specs.Curves.{curvesInRange}
+use Rattle.curve_set.specs.Curves.{curvesInRange, evenCurves}
 use Rattle.text_refusal.specs.declared.answer.Answer.the-variants as answer
 use Rattle.curve_set.specs.declared.Pair.{Pair}
 use Rattle.curve_set.specs.declared.CurveSet.{CurveSet}
 use Rattle.curve_text.specs.CurveText.{readCurves, curveText, writingCurves, writtenBuffer, writingAnswer, writtenLength}
+use Rattle.curve_text.specs.Length.{curvesLength}
+use Rattle.curve_text.specs.declared.WrittenCurves.the-variants as written
 use Rattle.curve_hour.specs.Hour.{hourIn, errorAnswer}
 use Rattle.curve_record.specs.Record.{fresh, groupAt}
 use Rattle.curve_record.specs.Possible.{meanOf, recordPossible}
@@ -24,7 +26,7 @@ use Rattle.curve_booking.specs.Booking.{booked}
 use Rattle.curve_settling.specs.Settle.{spreadOf, settled}
 use Rattle.curve_probability.specs.Probability.{onlineProbability, offlineProbability}
 use Rattle.curve_page.specs.Page.{seasonName, seasonCell, blockCell, probabilityAbove, pageRow, pairOfGroup, pageOf, writingPage, pageBuffer}
-use Rattle.curve.specs.FirstRefusal.{Decides, HourCase, BookingCase, SettlingCase, ReadingCurvesCase, WritingCurvesCase, WritingPageCase}
+use Rattle.curve.specs.FirstRefusal.{Decides, HourCase, BookingCase, SettlingCase, ReadingCurvesCase, WritingCurvesCase, CurvesLengthCase, WritingPageCase}
 use Rattle.curve.specs.Lists.{bookedAll, ListsLowered}
 
 -- ---- demand 1: the number first in checking order with its line, what stands as before, and nothing else refused (the lists of specs/FirstRefusal.antt)
@@ -53,6 +55,10 @@ WritingCurvesIsRefusedFirst =
     Decides (WritingCurvesCase curves buffer)
     (record { answer = writingAnswer written; length = writtenLength written; buffer = writtenBuffer curves buffer })
 
+-- the length of a curve set's text before it is written
+abbrev pub CurvesLengthIsRefusedFirst : Type 0
+CurvesLengthIsRefusedFirst = (curves : CurveSet) → Decides (CurvesLengthCase curves) (curvesLength curves)
+
 -- a curve set's page written into a lent buffer
 abbrev pub WritingPagesIsRefusedFirst : Type 0
 WritingPagesIsRefusedFirst =
@@ -71,13 +77,42 @@ CurveTextIsReadBack =
 abbrev pub CurveTextIsWrittenBack : Type 0
 CurveTextIsWrittenBack = (text : List ℕ) → readCurves text .answer ≡ answer.Accepted → curveText (readCurves text .set) ≡ text
 
--- a written text has at most 700 bytes
-abbrev pub CurveTextIsShort : Type 0
-CurveTextIsShort = (curves : CurveSet) → length (curves .pairs) ≡ 24 → curvesInRange curves ≡ true → length (curveText curves) ≤ 700
-
 -- a curve set that was read is in range
 abbrev pub ReadCurvesAreInRange : Type 0
 ReadCurvesAreInRange = (text : List ℕ) → readCurves text .answer ≡ answer.Accepted → curvesInRange (readCurves text .set) ≡ true
+
+-- ---- the length of a curve text, told before it is written
+
+-- the text has exactly as many bytes as were told
+pub record WrittenAsTold (curves : CurveSet) (told : ℕ) (buffer : List ℕ) : Type 0 where
+  pub exact : length (curveText curves) ≡ told
+  -- a buffer of just that length is accepted, and so is a longer one: the text is its first bytes, and bytes after it stay
+  pub accepted :
+      told ≤ length buffer →
+      (writingCurves curves buffer ≡ written.Length told)
+      × (take told (writtenBuffer curves buffer) ≡ curveText curves)
+      × (drop told (writtenBuffer curves buffer) ≡ drop told buffer)
+  -- one byte less, or fewer, is refused by 14 and stands
+  pub refused :
+      length buffer < told → (writingCurves curves buffer ≡ written.Refused (record { number = 14; line = 0 })) × (writtenBuffer curves buffer ≡ buffer)
+
+abbrev pub CurveTextHasTheToldLength : Type 0
+CurveTextHasTheToldLength = (curves : CurveSet) (told : ℕ) → curvesLength curves ≡ written.Length told → (buffer : List ℕ) → WrittenAsTold curves told buffer
+
+-- a curve set whose text is shortest: each number has one digit
+abbrev pub shortestCurves : CurveSet
+shortestCurves = evenCurves (pos 0) (pos 0) (pos 0) (pos 1)
+
+-- one whose text is longest: each number has as many digits as its range allows, and each mean a sign
+abbrev pub longestCurves : CurveSet
+longestCurves = evenCurves (pos 2000000) (pos 20000000) (negℤ (pos 20000000)) (pos 20000000)
+
+-- over all sets in range the least length is 327 and the greatest 700, and both are reached
+abbrev pub CurveTextLengthsAreBounded : Type 0
+CurveTextLengthsAreBounded =
+    ((curves : CurveSet) → length (curves .pairs) ≡ 24 → curvesInRange curves ≡ true → (327 ≤ length (curveText curves)) × (length (curveText curves) ≤ 700))
+    × (curvesLength shortestCurves ≡ written.Length 327)
+    × (curvesLength longestCurves ≡ written.Length 700)
 
 -- ---- settling
 

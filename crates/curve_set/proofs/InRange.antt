@@ -5,7 +5,7 @@ use mathlib.Core.Bool.{Bool, true, _&&_}
 use mathlib.Core.List.{List, [], _∷_}
 use mathlib.Core.Path.{_≡_, refl}
 use lib.IntN.{ℤ, pos, natAbs}
-use lib.ListN.{length, getD}
+use lib.ListN.{length, getD, replicate}
 use lib.Signed.{_≤ℤ_}
 use Rattle.integer.proofs.Ranges.{within-low, within-high}
 use Rattle.integer.proofs.Bounds.{abs-bound}
@@ -13,7 +13,7 @@ use Rattle.integer.proofs.Difference.{view, toℕ}
 use Rattle.text_refusal.proofs.Choices.{and-left, and-right}
 use Rattle.curve_set.specs.declared.Pair.{Pair}
 use Rattle.curve_set.specs.declared.CurveSet.{CurveSet}
-use Rattle.curve_set.specs.Curves.{Range, liesIn, vollRange, floorRange, meanRange, spreadRange, vollInRange, floorInRange, pairInRange, pairsInRange, curvesInRange}
+use Rattle.curve_set.specs.Curves.{Range, liesIn, vollRange, floorRange, meanRange, spreadRange, vollInRange, floorInRange, pairInRange, pairsInRange, curvesInRange, evenCurves}
 use Rattle.curve_set.proofs.CurveValues.{noPair}
 
 -- ---- a value in a range
@@ -72,6 +72,16 @@ pub set-in-range :
     curvesInRange (record { voll = voll; floor = floor; pairs = pairs }) ≡ true
 unfolding curvesInRange
 set-in-range voll floor pairs v f p = rw (v, f) p
+
+-- with the same pair in each group
+pub even-in-range :
+    (voll floor mean spread : ℤ) → vollInRange voll ≡ true → floorInRange floor ≡ true → pairInRange (record { mean = mean; spread = spread }) ≡ true →
+    curvesInRange (evenCurves voll floor mean spread) ≡ true
+even-in-range voll floor mean spread v f p = set-in-range voll floor (evenCurves voll floor mean spread .pairs) v f (same 24)
+  where
+    same : (n : ℕ) → pairsInRange (replicate n (record { mean = mean; spread = spread })) ≡ true
+    same zero = no-pairs-in-range
+    same (suc n) = more-pairs-in-range (record { mean = mean; spread = spread }) (replicate n (record { mean = mean; spread = spread })) p (same n)
 
 module _ (curves : CurveSet) (e : curvesInRange curves ≡ true) where
   pub in-range-voll : vollInRange (curves .voll) ≡ true

@@ -122,15 +122,18 @@ module _ {text : List ℕ} {values : List ℤ} {ended : Lines} (short : length t
 
 -- ---- writing
 
+-- by the keys that the code holds
+pub written-by-keys : (values : List ℤ) → writtenNumbers (keysOf curveKeys) values ≡ writeFields curveFields values
+written-by-keys values =
+    sym (written-by-schema (keysOf curveKeys) curveLows curveHighs values (omega (arith, fifty-keys, fifty-lows)) (omega (arith, fifty-keys, fifty-highs))) ∙
+    ap (λ (fields : List (Field ℤ)). writeFields fields values) curve-schema
+
 pub curves-laid :
     {values : List ℤ} {buffer after : List ℕ} {ended : Written} (curves : CurveSet) → LinesWritten curveKeys values buffer 0 after ended →
     values ≡ curveValues curves → TextWritten (curveText curves) buffer 0 after ended
 unfolding curveText
 curves-laid {buffer} {after} {ended} curves given values-are =
-    let text : writtenNumbers (keysOf curveKeys) (curveValues curves) ≡ writeFields curveFields (curveValues curves) =
-    sym (written-by-schema (keysOf curveKeys) curveLows curveHighs (curveValues curves) (omega (arith, fifty-keys, fifty-lows)) (omega (arith, fifty-keys, fifty-highs))) ∙
-    ap (λ (fields : List (Field ℤ)). writeFields fields (curveValues curves)) curve-schema in
-    subst (λ text. TextWritten text buffer 0 after ended) (ap (writtenNumbers (keysOf curveKeys)) values-are ∙ text) given
+    subst (λ text. TextWritten text buffer 0 after ended) (ap (writtenNumbers (keysOf curveKeys)) values-are ∙ written-by-keys (curveValues curves)) given
 
 module _ (curves : CurveSet) where
   pub set-refused : (buffer : List ℕ) → curvesInRange curves ≡ false → CurvesWritten curves buffer buffer (written-curves.Refused (record { number = 1; line = 0 }))

@@ -3,3 +3,4 @@ pub mod CurveText
 pub mod CurveCases
 pub mod CurveFields
 pub mod CurveInRange
+pub mod Lengths

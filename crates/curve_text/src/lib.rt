@@ -1,4 +1,6 @@
 // The text of a curve set: `voll`, `floor`, then 24 pairs `mu`, `sigma`; read, and written into a lent buffer.
+pub mod length;
+
 ghost use mathlib.Core.Path.{_≡_};
 ghost use Rattle.curve_set.specs.CurveValues.{curveValues};
 ghost use Rattle.curve_set.specs.Curves.{evenCurves};
@@ -28,13 +30,13 @@ use text_schema::read_lines;
 use text_writer::Written;
 use text_writer::write_lines;
 
-// How writing a curve text ended: how many bytes it has, or why it was refused.
+// How many bytes a curve text has, or why it is not written.
 pub enum WrittenCurves {
     Length(usize),
     Refused(Refusal),
 }
 
-const KEYS: [u8; 227] =
+pub(crate) const KEYS: [u8; 227] =
     *b"voll=floor=mu=sigma=mu=sigma=mu=sigma=mu=sigma=mu=sigma=mu=sigma=mu=sigma=mu=sigma=mu=sigma=mu=sigma=mu=sigma=mu=sigma=mu=sigma=mu=sigma=mu=sigma=mu=sigma=mu=sigma=mu=sigma=mu=sigma=mu=sigma=mu=sigma=mu=sigma=mu=sigma=mu=sigma=";
 
 // One bound for VOLL, one for X, one for each mean and one for each spread, in the order of the lines.

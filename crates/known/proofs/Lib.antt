@@ -5,6 +5,7 @@ pub mod Pricing
 pub mod Page
 pub mod Group
 pub mod Held
+pub mod Length
 pub mod Known
 pub mod BookingExamples
 pub mod PriceExamples

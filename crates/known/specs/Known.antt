@@ -7,6 +7,7 @@ use Rattle.known.specs.Pricing.{pricedValues}
 use Rattle.known.specs.Page.{pageValues}
 use Rattle.known.specs.Group.{groupValues}
 use Rattle.known.specs.Held.{heldValues}
+use Rattle.known.specs.Length.{lengthValues}
 
 abbrev pub allKnownValues : List (List ℤ × List ℤ)
-allKnownValues = tableValues ++ (settledValues ++ (pricedValues ++ (pageValues ++ (groupValues ++ heldValues))))
+allKnownValues = tableValues ++ (settledValues ++ (pricedValues ++ (pageValues ++ (groupValues ++ (heldValues ++ lengthValues)))))

@@ -6,4 +6,5 @@ pub mod Pricing
 pub mod Page
 pub mod Group
 pub mod Held
+pub mod Length
 pub mod Known

@@ -14,10 +14,11 @@ use Rattle.text_refusal.specs.declared.answer.Answer.the-variants as answer
 use Rattle.text_schema.specs.Checked.{firstRefused}
 use Rattle.text_schema.proofs.Checked.{first-numbered}
 use Rattle.curve_text.specs.CurveText.{readCurves, writingCurves, writingAnswer}
+use Rattle.curve_text.specs.Length.{curvesLength}
 use Rattle.curve_page.specs.Page.{writingPage}
 use Rattle.curve_settling.specs.Settle.{settled}
 use Rattle.curve_booking.specs.Booking.{booked}
-use Rattle.curve.proofs.Numbered.{AnswerNumbered, booked-numbered, settled-numbered, AnswerListed, curves-listed, writing-numbered, page-numbered}
+use Rattle.curve.proofs.Numbered.{AnswerNumbered, booked-numbered, settled-numbered, AnswerListed, curves-listed, length-numbered, writing-numbered, page-numbered}
 use Rattle.pricing.specs.Pricing.{priced}
 use Rattle.pricing.proofs.Numbered.{SnapshotListed, snapshot-listed, PricingListed, pricing-listed}
 use Rattle.pricing_snapshot.specs.Snapshot.{SnapshotAnswer, read, refused-by, snapshotIn}
@@ -73,6 +74,7 @@ refusals-are-numbered =
       booking = λ history text. numbered (booked history text .answer) (booked-numbered history text);
       settling = λ history voll floor. numbered (settled history voll floor .answer) (settled-numbered history voll floor);
       reading = λ text. listed text (readCurves text .answer) (curves-listed text);
+      curves-length = λ curves. numbered (writingAnswer (curvesLength curves)) (length-numbered curves);
       writing = λ curves buffer. numbered (writingAnswer (writingCurves curves buffer)) (writing-numbered curves buffer);
       page = λ curves buffer. numbered (writingPage curves buffer) (page-numbered curves buffer);
       pricing = λ curves text. listed-pricing text (priced curves text) (pricing-listed curves text);

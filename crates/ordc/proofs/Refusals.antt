@@ -2,16 +2,21 @@
 use Prim.Native.Nat.{ℕ}
 use native.Mathlib.Omega.{arith}
 use mathlib.Core.List.{List}
-use mathlib.Core.Path.{_≡_, refl, sym, _∙_}
+use lib.IntN.{ℤ}
+use mathlib.Core.Path.{_≡_, refl, sym, ap, _∙_}
 use Rattle.text_refusal.specs.declared.refusal.Refusal.{Refusal}
 use Rattle.curve_set.specs.CurveValues.{curvesOf}
 use Rattle.text_refusal.specs.declared.answer.Answer.{Answer}
 use Rattle.text_refusal.specs.declared.answer.Answer.the-variants as answer
 use Rattle.curve_set.specs.declared.CurveSet.{CurveSet}
-use Rattle.curve_text.specs.CurveText.{readCurves, writingCurves, writingAnswer, writtenBuffer}
+use Rattle.curve_text.specs.CurveText.{readCurves, writingCurves, writingAnswer, writtenLength, writtenBuffer}
+use Rattle.curve_text.specs.Length.{curvesLength}
+use Rattle.curve_text.specs.declared.WrittenCurves.{WrittenCurves}
+use Rattle.curve_text.specs.declared.WrittenCurves.the-variants as written
 use Rattle.curve_page.specs.Page.{writingPage}
 use Rattle.curve.specs.FirstRefusal.{Writing, WritingCurvesCase, set-impossible, buffer-short, text-written}
 use Rattle.curve.proofs.FirstRefusal.{writing-curves-is-refused-first}
+use Rattle.curve.proofs.Lengths.{curve-text-has-the-told-length}
 use Rattle.curve_settling.specs.Settle.{settled}
 use Rattle.curve_booking.specs.Booking.{booked}
 use Rattle.pricing_held.specs.Lines.{heldAnswer}
@@ -20,6 +25,8 @@ use Rattle.pricing_held_text.specs.Writing.{writingHeld}
 use Rattle.pricing.specs.Pricing.{priced}
 use Rattle.ordc.specs.Reply.{replyTo, Answered}
 use Rattle.ordc.specs.Record.{recordOf}
+use Rattle.ordc.specs.CurveText.{CurvesLengthCalled}
+use Rattle.ordc.specs.Calls.{Accepted}
 use Rattle.ordc.specs.Price.{pricingAnswer}
 use Rattle.ordc.specs.Promises.{
   Numbered,
@@ -27,7 +34,9 @@ use Rattle.ordc.specs.Promises.{
   BookCallIsRefusedFirst,
   SettleCallIsRefusedFirst,
   ReadCurvesCallIsRefusedFirst,
+  CurvesLengthCallIsRefusedFirst,
   WriteCurvesCallIsRefusedFirst,
+  WriteCurvesCallTakesTheToldLength,
   WritePageCallIsRefusedFirst,
   PriceCallIsRefusedFirst,
   ReadSnapshotCallIsRefusedFirst,
@@ -64,6 +73,10 @@ settle-call-is-refused-first history before after voll floor r called =
 pub read-curves-call-is-refused-first : ReadCurvesCallIsRefusedFirst
 read-curves-call-is-refused-first before after text r called = call-ends (readCurves text .answer) (refusals-are-numbered .reading text) called
 
+pub curves-length-call-is-refused-first : CurvesLengthCallIsRefusedFirst
+curves-length-call-is-refused-first values before after r called =
+    call-ends (writingAnswer (curvesLength (curvesOf values))) (refusals-are-numbered .curves-length (curvesOf values)) called
+
 -- a refused writing leaves the buffer
 refused-leaves : (curves : CurveSet) (buffer : List ℕ) {found : Refusal} → writingAnswer (writingCurves curves buffer) ≡ answer.Refused found → writtenBuffer curves buffer ≡ buffer
 refused-leaves curves buffer {found} = go (writing-curves-is-refused-first curves buffer .applies)
@@ -83,6 +96,35 @@ write-curves-call-is-refused-first values buffer buffer′ before after r called
         refused = λ found e. (count .refused found e .0, called .bytes ∙ refused-leaves (curvesOf values) buffer e);
         numbered = count .numbered;
       },
+    )
+
+-- the length that an accepted call told
+told-length : (values : List ℤ) (lent told : ℕ) (asked : Reply) → CurvesLengthCalled values lent told asked → Accepted asked → curvesLength (curvesOf values) ≡ written.Length told
+told-length values lent told asked called accepted =
+    let ends = curves-length-call-is-refused-first values lent told asked called in
+    go (curvesLength (curvesOf values)) (ends .numbered accepted) (ends .accepted (ends .numbered accepted) .1)
+  where
+    go : (ended : WrittenCurves) → writingAnswer ended ≡ answer.Accepted → told ≡ writtenLength ended → ended ≡ written.Length told
+    go (written.Length length) e same = ap written.Length (sym same)
+    go (written.Refused found) e same = let z : _≡_ {A = ℕ} 0 1 = cc in absurd (omega arith)
+
+pub write-curves-call-takes-the-told-length : WriteCurvesCallTakesTheToldLength
+write-curves-call-takes-the-told-length values lent told asked called accepted buffer buffer′ before after r writing =
+    let as-told = curve-text-has-the-told-length (curvesOf values) told (told-length values lent told asked called accepted) buffer in
+    let ends = write-curves-call-is-refused-first values buffer buffer′ before after r writing in (
+      (λ room.
+          (let given = as-told .accepted room in
+          let e = ap writingAnswer (given .0) in
+          let laid = ends .1 .accepted e .1 in (
+            ap (λ (r : Reply). r .number) (ends .0 .accepted e .0),
+            ends .0 .accepted e .1 ∙ ap writtenLength (given .0),
+            rw laid (given .1),
+            rw laid (given .2),
+          ))),
+      (λ short.
+          (let e = ap writingAnswer (as-told .refused short .0) in
+          let found : Refusal = record { number = 14; line = 0 } in
+          (ends .0 .refused found e .0, ends .0 .refused found e .1, ends .1 .refused found e .1))),
     )
 
 pub write-page-call-is-refused-first : WritePageCallIsRefusedFirst

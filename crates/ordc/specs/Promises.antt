@@ -1,11 +1,11 @@
 -- Named statements over what hosts call: the layouts, demand 1 with the number by which hosts know a refusal, and demand 3.
-use Prim.Native.Nat.{ℕ}
+use Prim.Native.Nat.{ℕ, _≤_, _<_}
 use mathlib.Core.Bool.{true, false}
 use mathlib.Core.List.{List}
 use mathlib.Core.Path.{_≡_}
 use lib.Dec.{eqb}
 use lib.IntN.{ℤ, pos}
-use lib.ListN.{length}
+use lib.ListN.{length, take, drop}
 use lib.Signed.{_≤ℤ_}
 use Rattle.text_refusal.specs.declared.refusal.Refusal.{Refusal}
 use Rattle.text_schema.specs.Schema.{laidOver}
@@ -15,7 +15,8 @@ use Rattle.curve_set.specs.declared.CurveSet.{CurveSet}
 use Rattle.curve_set.specs.declared.Curves.{Curves}
 use Rattle.text_refusal.specs.declared.answer.Answer.{Answer}
 use Rattle.text_refusal.specs.declared.answer.Answer.the-variants as answer
-use Rattle.curve_text.specs.CurveText.{readCurves, writingCurves, writingAnswer, writtenLength, writtenBuffer}
+use Rattle.curve_text.specs.CurveText.{readCurves, curveText, writingCurves, writingAnswer, writtenLength, writtenBuffer}
+use Rattle.curve_text.specs.Length.{curvesLength}
 use Rattle.curve_text.specs.declared.WrittenCurves.{WrittenCurves}
 use Rattle.curve_page.specs.Page.{writingPage, pageBuffer}
 use Rattle.curve_record.specs.Possible.{recordPossible}
@@ -33,7 +34,7 @@ use Rattle.pricing_adder.specs.declared.price.Pricing.{Pricing}
 use Rattle.pricing.specs.Pricing.{priced}
 use Rattle.pricing.specs.Promises.{SnapshotRaised}
 use Rattle.ordc.specs.Record.{recordOf, recordValues, BookCalled, SettleCalled}
-use Rattle.ordc.specs.CurveText.{ReadCurvesCalled, WriteCurvesCalled}
+use Rattle.ordc.specs.CurveText.{ReadCurvesCalled, CurvesLengthCalled, WriteCurvesCalled}
 use Rattle.ordc.specs.Page.{WritePageCalled}
 use Rattle.ordc.specs.Price.{pricingAnswer, PriceCalled, onlinePrice, offlinePrice}
 use Rattle.ordc.specs.Snapshot.{ReadSnapshotCalled, SnapshotLengthCalled, WriteSnapshotCalled}
@@ -70,6 +71,7 @@ pub record RefusalsAreNumbered : Type 0 where
   pub booking : (history : Record) (text : List ℕ) → Numbered (booked history text .answer)
   pub settling : (history : Record) (voll floor : ℤ) → Numbered (settled history voll floor .answer)
   pub reading : (text : List ℕ) → Numbered (readCurves text .answer)
+  pub curves-length : (curves : CurveSet) → Numbered (writingAnswer (curvesLength curves))
   pub writing : (curves : CurveSet) (buffer : List ℕ) → Numbered (writingAnswer (writingCurves curves buffer))
   pub page : (curves : CurveSet) (buffer : List ℕ) → Numbered (writingPage curves buffer)
   pub pricing : (curves : CurveSet) (text : List ℕ) → Numbered (pricingAnswer (priced curves text))
@@ -105,6 +107,13 @@ abbrev pub ReadCurvesCallIsRefusedFirst : Type 0
 ReadCurvesCallIsRefusedFirst =
     (before after : List ℤ) (text : List ℕ) (r : Reply) → ReadCurvesCalled text before after r →
     CallEnds (readCurves text .answer) before (curveValues (readCurves text .set)) after r
+
+-- `ordc_curves_length` is refused as the length is, and then leaves the length that is lent
+abbrev pub CurvesLengthCallIsRefusedFirst : Type 0
+CurvesLengthCallIsRefusedFirst =
+    (values : List ℤ) (before after : ℕ) (r : Reply) → CurvesLengthCalled values before after r →
+    let ended : WrittenCurves = curvesLength (curvesOf values) in
+    CallEnds (writingAnswer ended) before (writtenLength ended) after r
 
 -- `ordc_write_curves` is refused as the writing is, and then leaves the length and the buffer
 abbrev pub WriteCurvesCallIsRefusedFirst : Type 0
@@ -149,6 +158,18 @@ WriteSnapshotCallIsRefusedFirst =
     WriteSnapshotCalled header ids numbers buffer before buffer′ after r →
     CallEnds (writingHeld header ids numbers buffer) before (length (heldText header ids numbers)) after r
     × CallEnds (writingHeld header ids numbers buffer) buffer (laidAt buffer 0 (heldText header ids numbers)) buffer′ r
+
+-- ---- the length of a curve text, over the calls
+
+-- what `ordc_curves_length` told is what `ordc_write_curves` takes: a buffer of just that length is accepted, and so is a longer one, of which bytes after the text
+-- stay; a shorter one is refused by 14, and buffer and length stand
+abbrev pub WriteCurvesCallTakesTheToldLength : Type 0
+WriteCurvesCallTakesTheToldLength =
+    (values : List ℤ) (lent told : ℕ) (asked : Reply) → CurvesLengthCalled values lent told asked → Accepted asked →
+    (buffer buffer′ : List ℕ) (before after : ℕ) (r : Reply) → WriteCurvesCalled values buffer before buffer′ after r →
+    (told ≤ length buffer →
+    Accepted r × (after ≡ told) × (take told buffer′ ≡ curveText (curvesOf values)) × (drop told buffer′ ≡ drop told buffer))
+    × (length buffer < told → (r ≡ record { number = 14; line = 0 }) × (after ≡ before) × (buffer′ ≡ buffer))
 
 -- ---- demand 3 over the calls
 

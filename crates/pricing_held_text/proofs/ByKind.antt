@@ -18,8 +18,8 @@ use Rattle.pricing_held.specs.Rows.{Row, placeOf}
 use Rattle.pricing_held.specs.Lines.{linesOfKind}
 use Rattle.pricing_held.specs.internal.Checks.{rowOf}
 use Rattle.pricing_held.proofs.RowLines.{of-generator}
-use Rattle.pricing_held_text.specs.internal.RowText.{numberBytes}
-use Rattle.pricing_held_text.proofs.Counted.{KeyBytes, key-bytes, lines-bytes, first-lines}
+use Rattle.text_writer.specs.internal.Counted.{numberBytes}
+use Rattle.text_writer.proofs.Counted.{KeyBytes, key-bytes, lines-bytes, first-lines}
 
 -- ---- which lines
 

@@ -1,7 +1,6 @@
 -- Laws that the proofs of several functions share.
 pub mod Listed
 pub mod Room
-pub mod Counted
 pub mod ByKind
 pub mod RowTexts
 pub mod Cases

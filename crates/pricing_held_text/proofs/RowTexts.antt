@@ -28,8 +28,9 @@ use Rattle.pricing_held.specs.internal.Checks.{rowOf}
 use Rattle.pricing_held.proofs.RowChecks.{lines-alike}
 use Rattle.pricing_held.proofs.Definitions.{row-at-is, rows-from-none, rows-from-more, row-lines-are, rows-lines-none, rows-lines-more}
 use Rattle.pricing_held.proofs.Held.{held-text}
-use Rattle.pricing_held_text.specs.internal.RowText.{rowText, rowsText, numberBytes}
-use Rattle.pricing_held_text.proofs.Counted.{KeyBytes, key-bytes, lines-bytes}
+use Rattle.text_writer.specs.internal.Counted.{numberBytes}
+use Rattle.pricing_held_text.specs.internal.RowText.{rowText, rowsText}
+use Rattle.text_writer.proofs.Counted.{KeyBytes, key-bytes, lines-bytes}
 
 -- ---- a row
 

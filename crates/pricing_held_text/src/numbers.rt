@@ -6,7 +6,7 @@ ghost use Rattle.text_schema.specs.Checked.{textOf};
 ghost use Rattle.text_writer.specs.Write.{TextLaid};
 ghost use Rattle.pricing_held.specs.Lines.{linesOfKind};
 ghost use Rattle.pricing_held.specs.internal.Checks.{rowOf};
-ghost use Rattle.pricing_held_text.specs.internal.RowText.{numberBytes};
+ghost use Rattle.text_writer.specs.internal.Counted.{numberBytes};
 use crate::next_of;
 use crate::words::put_status;
 use crate::words::status_length;

@@ -19,7 +19,7 @@ use Rattle.curve_text.proofs.CurveCases.{text-written, text-laid}
 use Rattle.text_refusal.specs.declared.answer.Answer.the-variants as answer
 use Rattle.curve_text.specs.declared.WrittenCurves.{WrittenCurves}
 use Rattle.curve_text.specs.declared.WrittenCurves.the-variants as written-curves
-use Rattle.curve.proofs.CurveRoundTrip.{curve-text-is-short}
+use Rattle.curve.proofs.Lengths.{curve-text-lengths-are-bounded}
 use Rattle.curve_settling.specs.Settle.{settled}
 use Rattle.curve_record.specs.declared.Record.{Record}
 use Rattle.curve.proofs.Promises.{settled-curves-are-in-range, settled-length}
@@ -54,7 +54,7 @@ module _ (history : Record) (voll floor : ℤ) (accepted : settled history voll 
   in-range = settled-curves-are-in-range history voll floor accepted
 
   fits : length (curveText (settled history voll floor .set)) ≤ length before
-  fits = omega (arith, curve-text-is-short (settled history voll floor .set) (settled-length history voll floor) in-range)
+  fits = omega (arith, curve-text-lengths-are-bounded .0 (settled history voll floor .set) (settled-length history voll floor) in-range .1)
 
   curves-ended : w ≡ written-curves.Length (length (curveText (settled history voll floor .set)))
   curves-ended = is .ends ∙ text-written (settled history voll floor .set) before in-range fits

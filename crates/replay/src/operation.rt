@@ -8,6 +8,7 @@ use crate::output::show;
 use crate::output::show_answer;
 use crate::output::show_count;
 use ordc::book::ordc_book;
+use ordc::curves_length::ordc_curves_length;
 use ordc::price::ordc_price;
 use ordc::read_curves::ordc_read_curves;
 use ordc::reply::Reply;
@@ -60,6 +61,16 @@ pub(crate) fn checksum(bytes: &[u8]) -> u64 {
         i += 1;
     }
     sum
+}
+
+// The length of a curve set's text, which is not written for it.
+fn curves_length(fd: i32) {
+    let mut curves = [0i64; 50];
+    read_numbers(fd, &mut curves);
+    let mut length: usize = 7;
+    let refusal = ordc_curves_length(&curves, &mut length);
+    show_answer(refusal, &[]);
+    show_count(length as u64);
 }
 
 // The text is the buffer that is written to.
@@ -147,7 +158,7 @@ fn run_curves(fd: i32, input: &[u8]) {
 
 // The operation whose number follows in the file.
 pub(crate) fn operate(fd: i32, text: &mut [u8]) {
-    let operation = read_count(fd, 10);
+    let operation = read_count(fd, 11);
     match operation {
         0 => book(fd, text),
         1 => settle(fd),
@@ -159,6 +170,7 @@ pub(crate) fn operate(fd: i32, text: &mut [u8]) {
         7 => write_page(fd, text),
         8 => run_page(text),
         9 => read_values(fd, text),
-        _ => write_values(fd, text),
+        10 => write_values(fd, text),
+        _ => curves_length(fd),
     }
 }

@@ -249,6 +249,17 @@ digits-within (suc k) n h = go (ltb n 10) refl (digits-within k (n / 10))
     go true b others = omega (arith, count-one n (ltb-true n 10 b))
     go false b others = omega (arith, count-more n (ltb-false n 10 b), others (div-lt-iff-lt-mul {k = 10} {x = n} {y = 10 ^ suc k} (omega arith) .1 (rw (pow-suc 10 (suc k)) at h)))
 
+-- one that reaches a power of ten has one digit more
+pub digits-beyond : (k n : ℕ) → 10 ^ k ≤ n → suc k ≤ length (digitsOf n)
+digits-beyond zero n h = digits-some n
+digits-beyond (suc k) n h =
+    let p = pow-suc 10 k in
+    omega (arith, count-more n (omega (arith, p, power-some k)), digits-beyond k (n / 10) (omega (arith, p)))
+  where
+    power-some : (k : ℕ) → 1 ≤ 10 ^ k
+    power-some zero = omega arith
+    power-some (suc k) = omega (arith, pow-suc 10 k, power-some k)
+
 -- a machine number has at most twenty digits
 pub twenty-digits : (n : ℕ) → n < 2 ^ 64 → length (digitsOf n) ≤ 20
 twenty-digits n h = digits-within 19 n (omega arith)

@@ -1,9 +1,8 @@
--- Laws on writing by a schema: no lines, one line and then the others, how long the text is, and lines written before others.
-use Prim.Native.Nat.{ℕ, _+_}
+-- Laws on writing by a schema: no lines, one line and then the others, and lines written before others.
 use native.Mathlib.Omega.{arith}
 use mathlib.Core.List.{List, [], _∷_, _++_, append-assoc}
-use mathlib.Core.Path.{_≡_, refl, ap}
-use lib.ListN.{length, length-append}
+use mathlib.Core.Path.{_≡_, refl}
+use lib.ListN.{length}
 use Rattle.text_line.specs.Field.{Field}
 use Rattle.text_schema.specs.Schema.{writeFields}
 
@@ -20,18 +19,6 @@ module _ {A : Type 0} where
   pub write-first : (field : Field A) (fields : List (Field A)) (value : A) (values : List A) → writeFields (field ∷ fields) (value ∷ values) ≡ field .key ++ field .write value ++ (10 ∷ writeFields fields values)
   unfolding writeFields
   write-first field fields value values = refl
-
-  pub write-length :
-      (field : Field A) (fields : List (Field A)) (value : A) (values : List A) →
-      length (writeFields (field ∷ fields) (value ∷ values)) ≡ length (field .key) + length (field .write value) + 1 + length (writeFields fields values)
-  write-length field fields value values =
-      let rest : List ℕ = writeFields fields values in
-      omega (
-        arith,
-        ap length (write-first field fields value values),
-        length-append (field .key ++ field .write value) (10 ∷ rest),
-        length-append (field .key) (field .write value),
-      )
 
   -- as many values as lines come first, then those of the other lines
   pub write-append :

@@ -5,4 +5,5 @@ pub mod Writing
 pub mod Refused
 pub mod BySchema
 pub mod ShortLines
+pub mod Counted
 pub mod Rows

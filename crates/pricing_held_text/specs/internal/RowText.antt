@@ -1,9 +1,6 @@
--- Internal: the text of one row, how many bytes numbers have, and where the next line starts.
-use Prim.Native.Nat.{ℕ, _+_}
+-- Internal: the text of one row, and where the next line starts.
+use Prim.Native.Nat.{ℕ}
 use mathlib.Core.List.{List, [], _∷_, _++_}
-use lib.IntN.{ℤ}
-use lib.ListN.{length}
-use Rattle.text_number.specs.Number.{writtenNumber}
 use Rattle.text_schema.specs.Checked.{textOf}
 use Rattle.text_writer.specs.declared.Written.{Written}
 use Rattle.text_writer.specs.declared.Written.the-variants as written
@@ -18,11 +15,6 @@ rowText row = textOf (rowLines [] row)
 unfoldable pub rowsText : List Row → List ℕ
 rowsText [] = []
 rowsText (row ∷ rows) = rowText row ++ rowsText rows
-
--- how many bytes numbers have as they are written
-unfoldable pub numberBytes : List ℤ → ℕ
-numberBytes [] = 0
-numberBytes (z ∷ values) = length (writtenNumber z) + numberBytes values
 
 -- where writing ended; where it began, where there was no room
 abbrev pub nextOr : ℕ → Written → ℕ

@@ -9,11 +9,9 @@ use lib.ListN.{length, drop, getD}
 use mir.Facts.{toZ-ofZ}
 use mir.Syntax.{w64}
 use mir.Val.{SFits}
-use Rattle.integer.proofs.Bounds.{fits-abs}
 use Rattle.text_number.specs.Number.{writtenNumber}
-use Rattle.text_number.proofs.WrittenDigits.{written-within}
-use Rattle.pricing_held_text.specs.internal.RowText.{numberBytes}
-use Rattle.pricing_held_text.proofs.Counted.{bytes-over, bytes-next}
+use Rattle.text_writer.specs.internal.Counted.{numberBytes}
+use Rattle.text_writer.proofs.Counted.{bytes-over, bytes-next, machine-bytes}
 use Rattle.pricing_held_text.proofs.numbers.numbers_length.Statement.{statement}
 use Rattle.pricing_held_text.proofs.numbers.numbers_length.Tie as tie
 
@@ -45,9 +43,8 @@ fits c = sfits-of (c .before .number-length-arg .given)
 counted : (c : tie.After-number-length Inv-loop μ-loop) → c .number-length .result ≡ length (writtenNumber (z c))
 counted c = c .number-length .ensures ∙ ap (λ (z : ℤ). length (writtenNumber z)) (toZ-ofZ (fits c))
 
--- a machine number has at most twenty bytes
 few : (c : tie.After-number-length Inv-loop μ-loop) → c .number-length .result ≤ 20
-few c = omega (arith, counted c, written-within 18 (z c) (omega (arith, fits-abs (fits c))))
+few c = omega (arith, counted c, machine-bytes (fits c))
 
 add-total : tie.Need-add-total Inv-loop μ-loop
 add-total c = omega (arith, few c)

@@ -7,7 +7,8 @@ use denote.Ref.{now}
 use lib.ListN.{length, length-append}
 use Rattle.pricing_sums.specs.Header.{headerValues}
 use Rattle.pricing_held.specs.Rows.{heldCount, rowsFrom, headerHeld}
-use Rattle.pricing_held_text.specs.internal.RowText.{rowsText, numberBytes}
+use Rattle.text_writer.specs.internal.Counted.{numberBytes}
+use Rattle.pricing_held_text.specs.internal.RowText.{rowsText}
 use Rattle.pricing_held_text.proofs.RowTexts.{headerText, header-length, whole-text}
 use Rattle.pricing_held_text.proofs.rows.text_length.Statement.{statement}
 use Rattle.pricing_held_text.proofs.rows.text_length.Tie as tie

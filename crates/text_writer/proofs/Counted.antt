@@ -7,20 +7,32 @@ use mathlib.Core.Path.{_≡_, refl, sym, ap, _∙_}
 use lib.IntN.{ℤ, pos}
 use lib.ListN.{length, take, drop, getD, length-append, drop-of-length-le}
 use lib.Seq.{drop-cons, length-take-le, take-take}
+use mir.Syntax.{w64}
+use mir.Val.{SFits}
+use Rattle.integer.proofs.Bounds.{fits-abs}
 use Rattle.text_line.specs.Field.{Field}
 use Rattle.text_line.proofs.Pieces.{computedPieces}
 use Rattle.text_number.specs.Number.{writtenNumber}
+use Rattle.text_number.proofs.WrittenDigits.{written-within}
 use Rattle.text_schema.specs.Schema.{keysOf}
 use Rattle.text_schema.specs.Checked.{checkedLines, textOf}
 use Rattle.text_schema.proofs.Fields.{Schema, Keys, keys-computed}
 use Rattle.text_schema.proofs.Checked.{text-written}
 use Rattle.text_writer.specs.Write.{writtenLine, writtenNumbers}
 use Rattle.text_writer.proofs.Writing.{line-length, no-keys, first-line}
 use Rattle.text_writer.proofs.BySchema.{schema-written}
 use Rattle.text_writer.proofs.ShortLines.{keyBytes}
-use Rattle.pricing_held_text.specs.internal.RowText.{numberBytes}
+use Rattle.text_writer.specs.internal.Counted.{numberBytes}
 
 -- ---- the bytes of numbers, one after the other
+
+pub bytes-none : numberBytes [] ≡ 0
+unfolding numberBytes
+bytes-none = refl
+
+pub bytes-first : (z : ℤ) (values : List ℤ) → numberBytes (z ∷ values) ≡ length (writtenNumber z) + numberBytes values
+unfolding numberBytes
+bytes-first z values = refl
 
 module _ (values : List ℤ) (i : ℕ) where
   pub bytes-over : length values ≤ i → numberBytes (drop i values) ≡ 0
@@ -30,6 +42,10 @@ module _ (values : List ℤ) (i : ℕ) where
   pub bytes-next : i < length values → numberBytes (drop i values) ≡ length (writtenNumber (getD values i (pos 0))) + numberBytes (drop (i + 1) values)
   unfolding numberBytes
   bytes-next more = rw (drop-cons values i (pos 0) more, add-one i)
+
+-- a machine number has at most twenty bytes
+pub machine-bytes : {z : ℤ} → SFits w64 z → length (writtenNumber z) ≤ 20
+machine-bytes {z} fits = omega (arith, written-within 18 z (omega (arith, fits-abs fits)))
 
 -- ---- the bytes of lines
 
