@@ -65,7 +65,7 @@ enum {
     ORDC_RECORD = 72,
     ORDC_CURVES = 50,
     ORDC_ANSWER = 6,
-    ORDC_CURVE_TEXT = 700, /* no written curve text is longer, so a buffer of this many bytes is enough for any */
+    ORDC_CURVE_TEXT = 700, /* no written curve text is longer */
     ORDC_PAGE = 1728,      /* every page has this many bytes */
     ORDC_HEADER = 8,       /* numbers of a snapshot's header */
     ORDC_ID_ROW = 32,      /* bytes in a resource's row of ids */

@@ -137,7 +137,7 @@ fn history() {
         |text| reference::read_curves(text),
     );
     row(
-        "length of curves",
+        "curves length",
         SHORT,
         &texts,
         &settled,

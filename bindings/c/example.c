@@ -64,13 +64,13 @@ static void write_and_read(const int64_t curves[ORDC_CURVES], int64_t again[ORDC
 
     /* What a refusal looks like: a buffer of one byte too few, a buffer of no bytes, a spread of 0. */
     memset(text, 'x', length);
-    written = 0;
+    written = 77;
     expect_refused("short buffer", ordc_write_curves(curves, text, length - 1, &written), ORDC_BUFFER_SHORT, 0);
     expect_refused("empty buffer", ordc_write_curves(curves, text, 0, &written), ORDC_BUFFER_SHORT, 0);
     for (size_t i = 0; i < length; i++) {
         expect(text[i] == 'x', "a refusal changed the buffer");
     }
-    expect(written == 0, "a refusal changed what was written");
+    expect(written == 77, "a refusal changed what was written");
     memcpy(impossible, curves, sizeof impossible);
     impossible[ORDC_CURVES - 1] = 0;
     expect_refused("impossible curves", ordc_curves_length(impossible, &length), ORDC_IMPOSSIBLE_VALUES, 0);

@@ -48,8 +48,7 @@ fn set_of(input: &Input) -> Option<CurveSet> {
     match input {
         Input::Write { curves, .. }
         | Input::WritePage { curves, .. }
-        | Input::Price { curves, .. }
-        | Input::CurvesLength { curves } => Some(*curves),
+        | Input::Price { curves, .. } => Some(*curves),
         Input::Settle {
             record,
             voll,
@@ -63,7 +62,10 @@ fn set_of(input: &Input) -> Option<CurveSet> {
             read_curves(&text[..=last]).ok()
         }
         Input::CurvesProgram { text, .. } => read_curves(&run_curves(&text.bytes())).ok(),
-        Input::Book { .. } | Input::ReadValues { .. } | Input::WriteValues { .. } => None,
+        Input::Book { .. }
+        | Input::CurvesLength { .. }
+        | Input::ReadValues { .. }
+        | Input::WriteValues { .. } => None,
     }
 }
 

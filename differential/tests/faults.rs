@@ -55,7 +55,7 @@ enum Fault {
     LengthPower(i64),
     /// The last byte 10 is not counted in the length.
     LengthLastByte,
-    /// Every text is told the greatest length.
+    /// The greatest length is told for every text.
     LengthGreatest,
     /// The length is told with a refusal.
     LengthRefused,
@@ -69,9 +69,6 @@ enum Fault {
     /// it.
     TextCut,
 }
-
-/// The greatest length of a curve text.
-const TEXT: usize = 700;
 
 /// The sizes at which a number has a digit more.
 const POWERS: [i64; 7] = [10, 100, 1000, 10_000, 100_000, 1_000_000, 10_000_000];
@@ -144,7 +141,7 @@ impl Library for Faulty {
             Fault::LengthMinus => *length -= count(&|number| number < 0),
             Fault::LengthPower(power) => *length -= count(&|number| number.abs() == power),
             Fault::LengthLastByte => *length -= 1,
-            Fault::LengthGreatest => *length = TEXT,
+            Fault::LengthGreatest => *length = reference::WRITTEN_LIMIT,
             _ => {}
         }
         refusal

@@ -13,7 +13,7 @@
 //!     pairs: [ordc::Pair { mean: 0, spread: 1_000_000 }; ordc::GROUPS],
 //! };
 //! let text = curves.to_text()?;
-//! assert_eq!(text.len(), curves.text_length()?);
+//! assert_eq!(curves.text_length()?, 482);
 //! assert_eq!(ordc::CurveSet::from_text(&text)?, curves);
 //! let page = curves.to_page()?;
 //! let first = b"winter 0         0  1000000  158655254   22750132    1349898      31671\n";

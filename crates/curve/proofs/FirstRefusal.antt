@@ -69,7 +69,7 @@ use Rattle.curve.specs.FirstRefusal.{
   text-written,
   CurvesLengthCase,
   length-impossible,
-  length-told,
+  length-known,
   PageWriting,
   WritingPageCase,
   page-impossible,
@@ -324,12 +324,12 @@ pub curves-length-is-refused-first : CurvesLengthIsRefusedFirst
 curves-length-is-refused-first curves = record { applies = by-range (curvesInRange curves) refl; only = only }
   where
     by-range : (inside : Bool) → curvesInRange curves ≡ inside → CurvesLengthCase curves (curvesLength curves)
-    by-range false e = rw (lengths.length-refused curves e) (length-impossible e)
-    by-range true e = rw (lengths.length-told curves e) (length-told e)
+    by-range false e = rw (lengths.curves-length-refused curves e) (length-impossible e)
+    by-range true e = rw (lengths.curves-length-told curves e) (length-known e)
 
     only : (other : WrittenCurves) → CurvesLengthCase curves other → other ≡ curvesLength curves
-    only other (length-impossible out) = sym (lengths.length-refused curves out)
-    only other (length-told inside) = sym (lengths.length-told curves inside)
+    only other (length-impossible out) = sym (lengths.curves-length-refused curves out)
+    only other (length-known inside) = sym (lengths.curves-length-told curves inside)
 
 -- ---- pages
 

@@ -10,10 +10,12 @@ use Rattle.text_number.specs.Number.{writtenNumber}
 use Rattle.text_number.proofs.WrittenDigits.{count-one, digits-within, digits-beyond, written-natural, written-below}
 use Rattle.curve_set.proofs.InRange.{even-in-range}
 use Rattle.curve_text.specs.CurveText.{curveText}
+use Rattle.curve_set.specs.declared.CurveSet.{CurveSet}
+use Rattle.curve_text.specs.Length.{curvesLength}
 use Rattle.curve_text.specs.declared.WrittenCurves.{WrittenCurves}
 use Rattle.curve_text.specs.declared.WrittenCurves.the-variants as written
 use Rattle.curve_text.proofs.CurveCases.{short-refused, short-stays, text-written, text-laid}
-use Rattle.curve_text.proofs.Lengths.{length-told, even-counted, least-length, greatest-length}
+use Rattle.curve_text.proofs.Lengths.{curves-length-told, even-counted, least-length, greatest-length}
 use Rattle.curve.specs.FirstRefusal as cases
 use Rattle.curve.specs.Promises.{WrittenAsTold, CurveTextHasTheToldLength, shortestCurves, longestCurves, CurveTextLengthsAreBounded}
 use Rattle.curve.proofs.FirstRefusal.{curves-length-is-refused-first}
@@ -23,7 +25,7 @@ curve-text-has-the-told-length curves told e buffer = go (curves-length-is-refus
   where
     go : {found : WrittenCurves} → cases.CurvesLengthCase curves found → found ≡ written.Length told → WrittenAsTold curves told buffer
     go (cases.length-impossible out) e = let z : _≡_ {A = ℕ} 0 1 = cc in absurd (omega arith)
-    go (cases.length-told inside) e =
+    go (cases.length-known inside) e =
         let text : List ℕ = curveText curves in
         let exact : length text ≡ told = cc in
         let behind : 0 + length text ≡ told = omega arith in
@@ -40,6 +42,16 @@ curve-text-has-the-told-length curves told e buffer = go (curves-length-is-refus
         }
 
 -- ---- the bounds, and a set for each
+
+-- of a length that was told
+pub told-bounded : (curves : CurveSet) (told : ℕ) → length (curves .pairs) ≡ 24 → curvesLength curves ≡ written.Length told → (327 ≤ told) × (told ≤ 700)
+told-bounded curves told l e = go (curves-length-is-refused-first curves .applies) e
+  where
+    go : {found : WrittenCurves} → cases.CurvesLengthCase curves found → found ≡ written.Length told → (327 ≤ told) × (told ≤ 700)
+    go (cases.length-impossible out) e = let z : _≡_ {A = ℕ} 0 1 = cc in absurd (omega arith)
+    go (cases.length-known inside) e =
+        let exact : length (curveText curves) ≡ told = cc in
+        (omega (arith, least-length curves l inside), omega (arith, greatest-length curves l inside))
 
 one-byte : (n : ℕ) → n < 10 → length (writtenNumber (pos n)) ≡ 1
 one-byte n few = ap length (written-natural n) ∙ count-one n few
@@ -64,6 +76,6 @@ longest =
 pub curve-text-lengths-are-bounded : CurveTextLengthsAreBounded
 curve-text-lengths-are-bounded = (
   (λ curves l e. (least-length curves l e, greatest-length curves l e)),
-  length-told shortestCurves (even-in-range (pos 0) (pos 0) (pos 0) (pos 1) refl refl refl) ∙ ap written.Length shortest,
-  length-told longestCurves (even-in-range (pos 2000000) (pos 20000000) (negℤ (pos 20000000)) (pos 20000000) refl refl refl) ∙ ap written.Length longest,
+  curves-length-told shortestCurves (even-in-range (pos 0) (pos 0) (pos 0) (pos 1) refl refl refl) ∙ ap written.Length shortest,
+  curves-length-told longestCurves (even-in-range (pos 2000000) (pos 20000000) (negℤ (pos 20000000)) (pos 20000000) refl refl refl) ∙ ap written.Length longest,
 )

@@ -57,7 +57,7 @@ use Rattle.curve.specs.FirstRefusal.{
   text-written,
   CurvesLengthCase,
   length-impossible,
-  length-told,
+  length-known,
   PageWriting,
   WritingPageCase,
   page-impossible,
@@ -161,7 +161,7 @@ length-numbered curves = go (curves-length-is-refused-first curves .applies)
   where
     go : {found : WrittenCurves} → CurvesLengthCase curves found → AnswerNumbered (writingAnswer found)
     go (length-impossible out) = (omega arith, omega arith)
-    go (length-told inside) = tt
+    go (length-known inside) = tt
 
 -- ---- pages
 

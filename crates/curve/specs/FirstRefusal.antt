@@ -21,7 +21,7 @@ use Rattle.curve_set.specs.declared.CurveSet.{CurveSet}
 use Rattle.curve_set.specs.declared.Curves.{Curves}
 use Rattle.curve_text.specs.CurveText.{curveLines, curveText}
 use Rattle.curve_text.specs.declared.WrittenCurves.{WrittenCurves}
-use Rattle.curve_text.specs.declared.WrittenCurves.the-variants as written
+use Rattle.curve_text.specs.declared.WrittenCurves.the-variants as written-curves
 use Rattle.curve_page.specs.Page.{pageOf}
 use Rattle.curve_hour.specs.Hour.{hourGroup, errorOf, ownLines, ownHour, runLines, ownRuns}
 use Rattle.curve_hour.specs.declared.read.ReadHour.{ReadHour}
@@ -160,9 +160,9 @@ pub data WritingCurvesCase (curves : CurveSet) (buffer : List ℕ) : Writing →
 
 pub data CurvesLengthCase (curves : CurveSet) : WrittenCurves → Type 0 where
   -- 1: a curve value is out of range
-  length-impossible : curvesInRange curves ≡ false → CurvesLengthCase curves (written.Refused (record { number = 1; line = 0 }))
+  length-impossible : curvesInRange curves ≡ false → CurvesLengthCase curves (written-curves.Refused (record { number = 1; line = 0 }))
   -- accepted: as many bytes as the text has
-  length-told : curvesInRange curves ≡ true → CurvesLengthCase curves (written.Length (length (curveText curves)))
+  length-known : curvesInRange curves ≡ true → CurvesLengthCase curves (written-curves.Length (length (curveText curves)))
 
 -- ---- writing a page: 1, then 14; a refused write leaves the buffer
 

@@ -17,7 +17,7 @@ use Rattle.curve_set.specs.declared.Pair.{Pair}
 use Rattle.curve_set.specs.declared.CurveSet.{CurveSet}
 use Rattle.curve_text.specs.CurveText.{readCurves, curveText, writingCurves, writtenBuffer, writingAnswer, writtenLength}
 use Rattle.curve_text.specs.Length.{curvesLength}
-use Rattle.curve_text.specs.declared.WrittenCurves.the-variants as written
+use Rattle.curve_text.specs.declared.WrittenCurves.the-variants as written-curves
 use Rattle.curve_hour.specs.Hour.{hourIn, errorAnswer}
 use Rattle.curve_record.specs.Record.{fresh, groupAt}
 use Rattle.curve_record.specs.Possible.{meanOf, recordPossible}
@@ -89,15 +89,15 @@ pub record WrittenAsTold (curves : CurveSet) (told : ℕ) (buffer : List ℕ) : 
   -- a buffer of just that length is accepted, and so is a longer one: the text is its first bytes, and bytes after it stay
   pub accepted :
       told ≤ length buffer →
-      (writingCurves curves buffer ≡ written.Length told)
+      (writingCurves curves buffer ≡ written-curves.Length told)
       × (take told (writtenBuffer curves buffer) ≡ curveText curves)
       × (drop told (writtenBuffer curves buffer) ≡ drop told buffer)
   -- one byte less, or fewer, is refused by 14 and stands
   pub refused :
-      length buffer < told → (writingCurves curves buffer ≡ written.Refused (record { number = 14; line = 0 })) × (writtenBuffer curves buffer ≡ buffer)
+      length buffer < told → (writingCurves curves buffer ≡ written-curves.Refused (record { number = 14; line = 0 })) × (writtenBuffer curves buffer ≡ buffer)
 
 abbrev pub CurveTextHasTheToldLength : Type 0
-CurveTextHasTheToldLength = (curves : CurveSet) (told : ℕ) → curvesLength curves ≡ written.Length told → (buffer : List ℕ) → WrittenAsTold curves told buffer
+CurveTextHasTheToldLength = (curves : CurveSet) (told : ℕ) → curvesLength curves ≡ written-curves.Length told → (buffer : List ℕ) → WrittenAsTold curves told buffer
 
 -- a curve set whose text is shortest: each number has one digit
 abbrev pub shortestCurves : CurveSet
@@ -111,8 +111,8 @@ longestCurves = evenCurves (pos 2000000) (pos 20000000) (negℤ (pos 20000000)) 
 abbrev pub CurveTextLengthsAreBounded : Type 0
 CurveTextLengthsAreBounded =
     ((curves : CurveSet) → length (curves .pairs) ≡ 24 → curvesInRange curves ≡ true → (327 ≤ length (curveText curves)) × (length (curveText curves) ≤ 700))
-    × (curvesLength shortestCurves ≡ written.Length 327)
-    × (curvesLength longestCurves ≡ written.Length 700)
+    × (curvesLength shortestCurves ≡ written-curves.Length 327)
+    × (curvesLength longestCurves ≡ written-curves.Length 700)
 
 -- ---- settling
 

@@ -59,13 +59,13 @@ even-counted voll floor mean spread =
 -- ---- the length, by the set
 
 module _ (curves : CurveSet) where
-  pub length-refused : curvesInRange curves ≡ false → curvesLength curves ≡ written.Refused (record { number = 1; line = 0 })
+  pub curves-length-refused : curvesInRange curves ≡ false → curvesLength curves ≡ written.Refused (record { number = 1; line = 0 })
   unfolding curvesLength
-  length-refused out = rw out
+  curves-length-refused out = rw out
 
-  pub length-told : curvesInRange curves ≡ true → curvesLength curves ≡ written.Length (length (curveText curves))
+  pub curves-length-told : curvesInRange curves ≡ true → curvesLength curves ≡ written.Length (length (curveText curves))
   unfolding curvesLength
-  length-told inside = rw inside
+  curves-length-told inside = rw inside
 
 -- ---- the least and the greatest length
 

@@ -16,9 +16,9 @@ fn text_length(curves: CurveSet) -> usize
     ensures { λ r. ⌜ r ≡ length (curveText curves) ⌝ }
 {
     let values = values_of(curves);
-    let mut length = KEYS.len() + 50;
+    let mut length = KEYS.len() + values.len();
     let mut i: usize = 0;
-    while i < 50 {
+    while i < values.len() {
         length += number_length(values[i]);
         i += 1;
     }

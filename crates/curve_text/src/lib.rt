@@ -1,4 +1,4 @@
-// The text of a curve set: `voll`, `floor`, then 24 pairs `mu`, `sigma`; read, and written into a lent buffer.
+// The text of a curve set: `voll`, `floor`, then 24 pairs `mu`, `sigma`; read, measured, and written into a lent buffer.
 pub mod length;
 
 ghost use mathlib.Core.Path.{_≡_};

@@ -8,16 +8,16 @@ use Rattle.curve_text.specs.declared.WrittenCurves.{WrittenCurves}
 use Rattle.curve_text.specs.declared.WrittenCurves.the-variants as written
 
 -- 0, 0 and the length; or refused by a number at a line
-abbrev outcomeOf : WrittenCurves → List ℤ
-outcomeOf (written.Length length) = pos 0 ∷ pos 0 ∷ pos length ∷ []
-outcomeOf (written.Refused found) = pos (found .number) ∷ pos (found .line) ∷ []
+abbrev lengthOutcome : WrittenCurves → List ℤ
+lengthOutcome (written.Length length) = pos 0 ∷ pos 0 ∷ pos length ∷ []
+lengthOutcome (written.Refused found) = pos (found .number) ∷ pos (found .line) ∷ []
 
 -- a set with the same pair in each group
 abbrev long : ℤ → ℤ → ℤ → ℤ → ℤ → List ℤ × List ℤ
-long voll floor mean spread length = (outcomeOf (curvesLength (evenCurves voll floor mean spread)), pos 0 ∷ pos 0 ∷ length ∷ [])
+long voll floor mean spread length = (lengthOutcome (curvesLength (evenCurves voll floor mean spread)), pos 0 ∷ pos 0 ∷ length ∷ [])
 
 abbrev impossible : ℤ → ℤ → ℤ → ℤ → List ℤ × List ℤ
-impossible voll floor mean spread = (outcomeOf (curvesLength (evenCurves voll floor mean spread)), pos 1 ∷ pos 0 ∷ [])
+impossible voll floor mean spread = (lengthOutcome (curvesLength (evenCurves voll floor mean spread)), pos 1 ∷ pos 0 ∷ [])
 
 unfoldable pub lengthValues : List (List ℤ × List ℤ)
 lengthValues =
@@ -33,10 +33,13 @@ lengthValues =
     ∷ long (pos 9) (pos 10) (negℤ (pos 9)) (pos 10) (pos 376)
     ∷ long (pos 99) (pos 100) (negℤ (pos 10)) (pos 99) (pos 402)
     ∷ long (pos 999999) (pos 1000000) (negℤ (pos 9999999)) (pos 10000000) (pos 674)
-    -- a value one beyond its range: VOLL, X, mu below and above, sigma
+    -- a value one beyond its range, below and above: VOLL, X, mu, sigma
+    ∷ impossible (negℤ (pos 1)) (pos 0) (pos 0) (pos 1)
     ∷ impossible (pos 2000001) (pos 0) (pos 0) (pos 1)
     ∷ impossible (pos 0) (negℤ (pos 1)) (pos 0) (pos 1)
+    ∷ impossible (pos 0) (pos 20000001) (pos 0) (pos 1)
     ∷ impossible (pos 0) (pos 0) (negℤ (pos 20000001)) (pos 1)
     ∷ impossible (pos 0) (pos 0) (pos 20000001) (pos 1)
     ∷ impossible (pos 0) (pos 0) (pos 0) (pos 0)
+    ∷ impossible (pos 0) (pos 0) (pos 0) (pos 20000001)
     ∷ []

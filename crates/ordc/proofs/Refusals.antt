@@ -1,4 +1,4 @@
--- Demand 1 over the calls: each answers as the operation that it calls, and no refusal has the number 0.
+-- Demand 1 over the calls: each answers as the operation that it calls, and no refusal has the number 0. And a curve text takes the length that was told.
 use Prim.Native.Nat.{ℕ}
 use native.Mathlib.Omega.{arith}
 use mathlib.Core.List.{List}
@@ -6,6 +6,7 @@ use lib.IntN.{ℤ}
 use mathlib.Core.Path.{_≡_, refl, sym, ap, _∙_}
 use Rattle.text_refusal.specs.declared.refusal.Refusal.{Refusal}
 use Rattle.curve_set.specs.CurveValues.{curvesOf}
+use Rattle.curve_set.proofs.CurveValues.{pairs-of-length}
 use Rattle.text_refusal.specs.declared.answer.Answer.{Answer}
 use Rattle.text_refusal.specs.declared.answer.Answer.the-variants as answer
 use Rattle.curve_set.specs.declared.CurveSet.{CurveSet}
@@ -16,7 +17,7 @@ use Rattle.curve_text.specs.declared.WrittenCurves.the-variants as written
 use Rattle.curve_page.specs.Page.{writingPage}
 use Rattle.curve.specs.FirstRefusal.{Writing, WritingCurvesCase, set-impossible, buffer-short, text-written}
 use Rattle.curve.proofs.FirstRefusal.{writing-curves-is-refused-first}
-use Rattle.curve.proofs.Lengths.{curve-text-has-the-told-length}
+use Rattle.curve.proofs.Lengths.{curve-text-has-the-told-length, told-bounded}
 use Rattle.curve_settling.specs.Settle.{settled}
 use Rattle.curve_booking.specs.Booking.{booked}
 use Rattle.pricing_held.specs.Lines.{heldAnswer}
@@ -37,6 +38,7 @@ use Rattle.ordc.specs.Promises.{
   CurvesLengthCallIsRefusedFirst,
   WriteCurvesCallIsRefusedFirst,
   WriteCurvesCallTakesTheToldLength,
+  ToldLengthsAreBounded,
   WritePageCallIsRefusedFirst,
   PriceCallIsRefusedFirst,
   ReadSnapshotCallIsRefusedFirst,
@@ -126,6 +128,10 @@ write-curves-call-takes-the-told-length values lent told asked called accepted b
           let found : Refusal = record { number = 14; line = 0 } in
           (ends .0 .refused found e .0, ends .0 .refused found e .1, ends .1 .refused found e .1))),
     )
+
+pub told-lengths-are-bounded : ToldLengthsAreBounded
+told-lengths-are-bounded values lent told asked called accepted =
+    told-bounded (curvesOf values) told (pairs-of-length values) (told-length values lent told asked called accepted)
 
 pub write-page-call-is-refused-first : WritePageCallIsRefusedFirst
 write-page-call-is-refused-first values before after r called = call-ends (writingPage (curvesOf values) before) (refusals-are-numbered .page (curvesOf values) before) called

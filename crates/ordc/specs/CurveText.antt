@@ -14,7 +14,7 @@ use Rattle.ordc.specs.declared.reply.Reply.{Reply}
 abbrev pub ReadCurvesCalled : List ℕ → List ℤ → List ℤ → Reply → Type 0
 ReadCurvesCalled text before after r = Answered (replyTo (readCurves text .answer)) before (curveValues (readCurves text .set)) after r
 
--- a set in range gives its text's length; another one leaves it
+-- a set in range gives its text's length; another one leaves the length that is lent
 abbrev pub CurvesLengthCalled : List ℤ → ℕ → ℕ → Reply → Type 0
 CurvesLengthCalled values before after r =
     Answered (replyTo (writingAnswer (curvesLength (curvesOf values)))) before (writtenLength (curvesLength (curvesOf values))) after r

@@ -1,4 +1,5 @@
--- Named statements over what hosts call: the layouts, demand 1 with the number by which hosts know a refusal, and demand 3.
+-- Named statements over what hosts call: the layouts, demand 1 with the number by which hosts know a refusal, the length of a curve text (document 02, W-205), and
+-- demand 3.
 use Prim.Native.Nat.{ℕ, _≤_, _<_}
 use mathlib.Core.Bool.{true, false}
 use mathlib.Core.List.{List}
@@ -170,6 +171,10 @@ WriteCurvesCallTakesTheToldLength =
     (told ≤ length buffer →
     Accepted r × (after ≡ told) × (take told buffer′ ≡ curveText (curvesOf values)) × (drop told buffer′ ≡ drop told buffer))
     × (length buffer < told → (r ≡ record { number = 14; line = 0 }) × (after ≡ before) × (buffer′ ≡ buffer))
+
+-- a length that is told is at least 327 and at most 700
+abbrev pub ToldLengthsAreBounded : Type 0
+ToldLengthsAreBounded = (values : List ℤ) (lent told : ℕ) (asked : Reply) → CurvesLengthCalled values lent told asked → Accepted asked → (327 ≤ told) × (told ≤ 700)
 
 -- ---- demand 3 over the calls
 
