@@ -183,21 +183,37 @@ fn pairs(library: &dyn Library, options: &Options) -> bool {
     unmatched == 0 && (tight > 0 || options.pairs == 0)
 }
 
-/// Runs the pages; true if nothing is broken and some rows were telling.
-fn pages(library: &dyn Library, options: &Options) -> bool {
-    let start = Instant::now();
-    let mut counts = page::Counts::default();
-    // Its own numbers, whatever the number of inputs and of pairs.
-    let seed = Random::at(options.seed, u64::MAX - 1).bits();
-    for place in 0..options.pages {
-        match page::check(library, &mut Random::at(seed, place)) {
-            Ok(more) => counts.add(&more),
+/// Makes a check so many times and adds up what it counts; none where one is
+/// broken, which is then printed.
+fn repeated<C: Default>(
+    name: &str,
+    times: u64,
+    seed: u64,
+    check: impl Fn(&mut Random) -> Result<C, String>,
+    add: impl Fn(&mut C, &C),
+) -> Option<C> {
+    let mut counts = C::default();
+    for place in 0..times {
+        match check(&mut Random::at(seed, place)) {
+            Ok(more) => add(&mut counts, &more),
             Err(broken) => {
-                print!("page {place}: {broken}");
-                return false;
+                print!("{name} {place}: {broken}");
+                return None;
             }
         }
     }
+    Some(counts)
+}
+
+/// Runs the pages; true if nothing is broken and some rows were telling.
+fn pages(library: &dyn Library, options: &Options) -> bool {
+    let start = Instant::now();
+    // Its own numbers, whatever the number of inputs and of pairs.
+    let seed = Random::at(options.seed, u64::MAX - 1).bits();
+    let check = |random: &mut Random| page::check(library, random);
+    let Some(counts) = repeated("page", options.pages, seed, check, page::Counts::add) else {
+        return false;
+    };
     let seconds = start.elapsed().as_secs_f64();
     let page::Counts {
         pages,
@@ -219,18 +235,12 @@ fn pages(library: &dyn Library, options: &Options) -> bool {
 /// Runs the round trips; true if nothing is broken and some were telling.
 fn trips(library: &dyn Library, options: &Options) -> bool {
     let start = Instant::now();
-    let mut counts = trip::Counts::default();
     // Its own numbers, whatever the number of all others.
     let seed = Random::at(options.seed, u64::MAX - 2).bits();
-    for place in 0..options.trips {
-        match trip::check(library, &mut Random::at(seed, place)) {
-            Ok(more) => counts.add(&more),
-            Err(broken) => {
-                print!("round trip {place}: {broken}");
-                return false;
-            }
-        }
-    }
+    let check = |random: &mut Random| trip::check(library, random);
+    let Some(counts) = repeated("round trip", options.trips, seed, check, trip::Counts::add) else {
+        return false;
+    };
     let seconds = start.elapsed().as_secs_f64();
     let trip::Counts {
         trips,
@@ -253,18 +263,13 @@ fn trips(library: &dyn Library, options: &Options) -> bool {
 /// telling.
 fn curve_trips(library: &dyn Library, options: &Options) -> bool {
     let start = Instant::now();
-    let mut counts = curve_trip::Counts::default();
     // Its own numbers, whatever the number of all others.
     let seed = Random::at(options.seed, u64::MAX - 3).bits();
-    for place in 0..options.trips {
-        match curve_trip::check(library, &mut Random::at(seed, place)) {
-            Ok(more) => counts.add(&more),
-            Err(broken) => {
-                print!("round trip {place} of a curve set: {broken}");
-                return false;
-            }
-        }
-    }
+    let check = |random: &mut Random| curve_trip::check(library, random);
+    let name = "round trip of a curve set";
+    let Some(counts) = repeated(name, options.trips, seed, check, curve_trip::Counts::add) else {
+        return false;
+    };
     let seconds = start.elapsed().as_secs_f64();
     let curve_trip::Counts {
         trips,
