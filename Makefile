@@ -54,11 +54,13 @@ c-example: $(BUILD)/example
 rust-example: $(ARCHIVE)
 	cd bindings/rust && ORDC_LIB_DIR=$(BUILD) cargo run --offline --quiet --example listing
 	cd bindings/rust && ORDC_LIB_DIR=$(BUILD) cargo run --offline --quiet --example edit_snapshot
+	cd bindings/rust && ORDC_LIB_DIR=$(BUILD) cargo run --offline --quiet --example suspect_reading
 
 python-example: $(SHARED)
 	PYTHONPATH=bindings/python ORDC_LIBRARY=$(SHARED) $(PYTHON) bindings/python/examples/price_folder.py bindings/python/examples/listing.curves bindings/python/examples/snapshots
 	PYTHONPATH=bindings/python ORDC_LIBRARY=$(SHARED) $(PYTHON) bindings/python/examples/print_page.py bindings/python/examples/listing.curves
 	PYTHONPATH=bindings/python ORDC_LIBRARY=$(SHARED) $(PYTHON) bindings/python/examples/edit_snapshot.py bindings/python/examples/listing.curves bindings/python/examples/snapshots/1-listing.txt C status OUT
+	PYTHONPATH=bindings/python ORDC_LIBRARY=$(SHARED) $(PYTHON) bindings/python/examples/suspect_readings.py bindings/python/examples/listing.curves bindings/python/examples/snapshots/6-marked.txt bindings/python/examples/snapshots/7-suspect-hsl.txt
 
 # the tests of the bindings
 tests: lib

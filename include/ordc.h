@@ -8,7 +8,7 @@
  * names. Pointers to arrays and numbers must not be null.
  *
  * Every function returns a struct ordc_refusal. Number 0 means accepted, and then line is 0 too. Any other number is
- * a refusal, 1 to 14 below. On a refusal every array, row, buffer and number that was lent is as it was before the
+ * a refusal, 1 to 15 below. On a refusal every array, row, buffer and number that was lent is as it was before the
  * call.
  *
  * No function keeps state, allocates or blocks. Calls from several threads on data of their own need no lock.
@@ -42,13 +42,27 @@
  *                 gen, wind, irr, nuke    net lsl hsl base nonspin cold30, at the places 2 to 7
  *                 clr                     base lpc nonspin regup, at the places 2 to 5
  *                 nclr                    rrsok net lpc rrs, at the places 2 to 5
- *               Place 8 is kept free for later use: leave it 0.
+ *               At place 8 (ORDC_MARKS) stand the marks of the numbers, 0 where none is marked.
  *               Reading sets the bytes after an id and the places that a resource does not use to 0, of a load the
  *               status too, and so what is kept free. Writing looks at none of these.
  *               Lengths of ids and numbers are in bytes and in numbers. As many resources are held, or have space, as
  *               there are whole rows of both: the lesser of ids_length / 32 and numbers_length / 9. What is left over
  *               is neither looked at nor changed.
  *               Ranges and units are those of the text (docs/FORMAT.md).
+ *     marks     a number of a resource may be marked suspect: in a text by one `?` after it, in a row by ORDC_MARK of
+ *               its place, added up at place 8: 1 for the number at place 2, 2 for place 3, then 4, 8, 16 and 32 for
+ *               the places 4 to 7. The flags cold30 and rrsok carry no mark, nor do the numbers of the header.
+ *               Reading sets place 8. Writing takes its magnitude where it is below 0, and does not look at binary
+ *               digits beyond the numbers of the kind, six for a generator and four for a load.
+ *               On some units a marked number turns the snapshot back (15), whichever of the unit's numbers it is: on
+ *               those that enter a sum, or would if the 95 percent test were left out, and on every gen and wind in
+ *               STARTUP. These are
+ *                 gen           ON, STARTUP, OFFNS, and OFF where cold30 is 1
+ *                 wind          ON, STARTUP, OFFNS
+ *                 irr           OFFNS
+ *                 nuke          OFFNS, and OFF where cold30 is 1
+ *                 clr, nclr     always
+ *               On any other unit a mark is kept, and the price is that of the snapshot without it.
  */
 #ifndef ORDC_H
 #define ORDC_H
@@ -70,6 +84,7 @@ enum {
     ORDC_HEADER = 8,       /* numbers of a snapshot's header */
     ORDC_ID_ROW = 32,      /* bytes in a resource's row of ids */
     ORDC_NUMBER_ROW = 9,   /* numbers in a resource's row of numbers */
+    ORDC_MARKS = 8,        /* the place of the marks in a row of numbers */
     ORDC_RESOURCES = 4096, /* no snapshot has more resources */
     ORDC_STACK = 262144    /* no call needs a larger stack, in bytes */
 };
@@ -105,8 +120,13 @@ enum ordc_status {
     ORDC_OUT = 6
 };
 
-/* Refusal numbers, in checking order. The line counts from 1 within the text of the call, or within the text that the
- * call would write, and is 0 unless said. */
+/* The mark of the number at a place of a row of numbers, 2 to 7. The marks of a row are added up at place ORDC_MARKS:
+ *   row[ORDC_MARKS] |= ORDC_MARK(4);         a generator's HSL is marked
+ *   if (row[ORDC_MARKS] & ORDC_MARK(4))      whether it is, in a row that was read */
+#define ORDC_MARK(place) (INT64_C(1) << ((place) - 2))
+
+/* Refusal numbers, in checking order but for 15, which comes after 9 and before 14. The line counts from 1 within the
+ * text of the call, or within the text that the call would write, and is 0 unless said. */
 enum ordc_number {
     ORDC_ACCEPTED = 0,
     ORDC_IMPOSSIBLE_VALUES = 1, /* a record or a curve set that was handed in is impossible */
@@ -115,7 +135,7 @@ enum ordc_number {
     ORDC_WRONG_KEY = 4,         /* the line does not begin with the due key and `=`; gives that line */
     ORDC_EMPTY_VALUE = 5,       /* the value is empty; gives that line */
     ORDC_BADLY_WRITTEN = 6,     /* the value is badly written or no listed word, in writing an id that is empty or badly
-                                   written, or a number of no kind or status; gives that line */
+                                   written, a number of no kind or status, or a flag that is marked; gives that line */
     ORDC_OUT_OF_RANGE = 7,      /* a number is outside its range; gives that line, 0 for VOLL and X at settling, 8 for
                                    more than 4096 resources held */
     ORDC_REPEATED_ID = 8,       /* the id already stands above; gives that line, which is the later of the two */
@@ -124,8 +144,10 @@ enum ordc_number {
     ORDC_ERROR_TOO_LARGE = 11,  /* the reserve error lies beyond +-20000000 kW */
     ORDC_TOO_FEW_HOURS = 12,    /* a group has fewer than 2 hours; line is the first faulty group, 0..23 */
     ORDC_SPREAD_ZERO = 13,      /* a group has spread 0; line is that group, 0..23 */
-    ORDC_BUFFER_SHORT = 14      /* the buffer is shorter than the text or the page, or the space lent is for fewer
+    ORDC_BUFFER_SHORT = 14,     /* the buffer is shorter than the text or the page, or the space lent is for fewer
                                    resources than the snapshot has */
+    ORDC_SUSPECT_NUMBER = 15    /* a number is marked suspect on a unit where that turns the snapshot back; gives that
+                                   number's line, the first such */
 };
 
 struct ordc_refusal {
@@ -189,10 +211,10 @@ struct ordc_refusal ordc_write_page(const int64_t curves[ORDC_CURVES], uint8_t *
 /* Prices a snapshot on a curve set.
  *   curves  read only.
  *   text    the snapshot, at most 1048576 bytes: month hour lambda factor prc eea1 short count, then each resource
- *           with id and kind and the lines of its kind; at most 4096 resources.
+ *           with id and kind and the lines of its kind, whose numbers may be marked; at most 4096 resources.
  *   answer  where accepted, the six numbers of enum ordc_place: reserves in kW, which may be negative, probabilities
  *           0..1000000000, prices 0..4000000.
- * Refusals: 1, 2, 3 to 8, 9. On a refusal answer is as before. */
+ * Refusals: 1, 2, 3 to 8, 9, then 15. On a refusal answer is as before. */
 struct ordc_refusal ordc_price(const int64_t curves[ORDC_CURVES], const uint8_t *text, size_t length,
                                int64_t answer[ORDC_ANSWER]);
 
@@ -202,27 +224,29 @@ struct ordc_refusal ordc_price(const int64_t curves[ORDC_CURVES], const uint8_t 
  *   header  where accepted, all 8 numbers are written, the eighth being `count`.
  *   ids, numbers
  *           where accepted, the first `count` rows of each are written; what stands after them is as before.
- * Refusals: 2, 3 to 8, 9, then 14. On a refusal header, ids and numbers are as before. */
+ * Refusals: 2, 3 to 8, 9, then 15, then 14. On a refusal header, ids and numbers are as before. */
 struct ordc_refusal ordc_read_snapshot(const uint8_t *text, size_t length, int64_t header[ORDC_HEADER], uint8_t *ids,
                                        size_t ids_length, int64_t *numbers, size_t numbers_length);
 
-/* Tells how long the text of a snapshot held as values is; it has at most 495718 bytes.
+/* Tells how long the text of a snapshot held as values is; it has at most 516198 bytes.
  *   header, ids, numbers
  *           read only.
  *   length  where accepted, the length in bytes of the text that ordc_write_snapshot writes.
  * The lines are checked in the order in which they would be written: the header, of which line 8 is the number of
- * resources held, then of each resource the id, the kind, the status of a generator and the numbers of the kind.
- * Refusals: 6, 7 and 8 at the first line that has one. On a refusal length is as before. */
+ * resources held, then of each resource the id, the kind, the status of a generator and the numbers of the kind with
+ * their marks.
+ * Refusals: 6, 7 and 8 at the first line that has one, then 15. On a refusal length is as before. */
 struct ordc_refusal ordc_snapshot_length(const int64_t header[ORDC_HEADER], const uint8_t *ids, size_t ids_length,
                                          const int64_t *numbers, size_t numbers_length, size_t *length);
 
 /* Writes the text of a snapshot held as values to the front of a buffer. The text is accepted, and reading it gives the
- * same values, with 0 wherever writing does not look. An accepted text that is read and written gives its own bytes.
+ * same values, with 0 wherever writing does not look and the magnitude where place 8 is below 0. An accepted text that
+ * is read and written gives its own bytes.
  *   header, ids, numbers
  *           read only.
  *   buffer  where accepted, holds the text; bytes after the text are as before.
  *   written where accepted, the text's length in bytes.
- * Refusals: 6, 7 and 8 as in ordc_snapshot_length, then 14. On a refusal buffer and written are as before. */
+ * Refusals: 6, 7, 8 and 15 as in ordc_snapshot_length, then 14. On a refusal buffer and written are as before. */
 struct ordc_refusal ordc_write_snapshot(const int64_t header[ORDC_HEADER], const uint8_t *ids, size_t ids_length,
                                         const int64_t *numbers, size_t numbers_length, uint8_t *buffer, size_t size,
                                         size_t *written);

@@ -50,6 +50,10 @@ def curves_whole(rng):
         yield f"an hour of {length} bytes", head + b"x" * length + b"\n\n" + one
         yield f"an hour of {length} bytes in lines", head + (b"x" * 63 + b"\n") * (length // 64) + b"y" * (length % 64) + b"\n\n"
         yield f"a last hour of {length} bytes", head + b"x" * length
+    for line in (b"month=7", b"hour=14", b"runs=2"):
+        yield f"a mark on the line {line!r} of an hour", head + one.replace(line + b"\n", line + b"?\n", 1)
+    yield "a mark on voll", head.replace(b"900000", b"900000?", 1) + one
+    yield "a mark on floor", head.replace(b"2000000", b"2000000?", 1) + one
     yield "1001 hours in a group", head + b"\n".join([one] * 1001)
     far = one.replace(b"ongen=", b"ongen=1", 1)
     yield "an error beyond its bounds", head + one + b"\n" + far
@@ -67,6 +71,18 @@ UNITS = [
     "id=C kind=gen status=OFFNS net=0 lsl=0 hsl=293000 base=0 nonspin=0 cold30=0",
 ]
 LISTING = (CURVES + "\n" + snapshot(UNITS)).encode()
+# Units on which a number may be marked suspect, and one of each sort on which it may not.
+MARKED = {
+    "a unit that is OUT": "id=M kind=gen status=OUT net=-5? lsl=1? hsl=900000? base=0? nonspin=7? cold30=1",
+    "an intermittent unit that is ON": "id=M kind=irr status=ON net=5 lsl=1 hsl=900000? base=0 nonspin=0 cold30=0",
+    "a unit that is OFF, not cold30": "id=M kind=nuke status=OFF net=0 lsl=0 hsl=900000? base=0 nonspin=0 cold30=0",
+    "a unit that is OFF and cold30": "id=M kind=nuke status=OFF net=0 lsl=0 hsl=900000? base=0 nonspin=0 cold30=1",
+    "a unit that is ON below 95 percent": "id=M kind=wind status=ON net=94 lsl=100 hsl=900000 base=0? nonspin=0 cold30=0",
+    "a unit that starts up without Non-Spin": "id=M kind=gen status=STARTUP net=5 lsl=1 hsl=900000 base=0 nonspin=0? cold30=0",
+    "a unit that is OFFNS": "id=M kind=irr status=OFFNS net=0? lsl=0 hsl=1 base=0 nonspin=0 cold30=0",
+    "a load that is not validated": "id=M kind=nclr rrsok=0 net=10 lpc=0 rrs=3?",
+    "a controllable load": "id=M kind=clr base=1? lpc=1 nonspin=1 regup=1",
+}
 
 
 def longest(length):
@@ -100,6 +116,15 @@ def price_whole(rng):
     yield "an empty line after the snapshot", whole + b"\n"
     yield "one byte too many behind a right snapshot", longest(LIMIT) + b"\n"
     yield "many bytes behind the listing", whole + b"x" * (3 * LIMIT)
+    for name, unit in MARKED.items():
+        text = (CURVES + "\n" + snapshot(UNITS + [unit])).encode()
+        yield f"a mark on {name}", text
+        yield f"a mark on {name}, and a byte more", text + b"x"
+    for line in dict.fromkeys(CURVES.encode().splitlines() + snapshot(UNITS).encode().splitlines()):
+        yield f"a mark on the line {line!r}", whole.replace(line + b"\n", line + b"?\n", 1)
+    for value in (b"?", b"-?", b"5??", b"?5", b"-0?", b"05?", b"0?", b"-5?", b"2000001?"):
+        yield f"net written {value!r}", whole.replace(b"net=95000", b"net=" + value, 1)
+        yield f"net of a unit that is OUT written {value!r}", whole.replace(b"status=OFFNS\nnet=0", b"status=OUT\nnet=" + value, 1)
     yield "one nclr", (CURVES + "\n" + snapshot(["id=L kind=nclr rrsok=1 net=10 lpc=0 rrs=3"])).encode()
     for _ in range(200):
         yield "damaged", damaged(whole, rng)
@@ -109,7 +134,7 @@ def damaged(text, rng):
     """The text with one to three bytes replaced."""
     text = bytearray(text)
     for _ in range(rng.randrange(1, 4)):
-        text[rng.randrange(len(text))] = rng.choice(b"0123456789-=\nABz")
+        text[rng.randrange(len(text))] = rng.choice(b"0123456789-=\nABz?")
     return bytes(text)
 
 
@@ -144,7 +169,7 @@ def page_whole(rng):
         yield f"{length} empty lines", b"\n" * length
     for length in (PAGE_LIMIT, PAGE_LIMIT + 1):
         yield f"a number's line of {length} bytes", lengthened(b"voll=", length - 1) + b"\n"
-    for old, new in ((b"voll=900000", b"voll=2000001"), (b"voll=900000", b"voll=-1"), (b"floor=2000000", b"floor="), (b"floor=2000000", b"floor=20000001"), (b"mu=-20000000", b"mu=-20000001"), (b"mu=0\nsigma=1\n", b"mu=0\nsigma=0\n"), (b"mu=0", b"mu=-0"), (b"sigma=20000000", b"sigma=20000001"), (b"sigma=900019", b"sigma=+1"), (b"sigma=900019", b"mu=1")):
+    for old, new in ((b"voll=900000", b"voll=2000001"), (b"voll=900000", b"voll=-1"), (b"floor=2000000", b"floor="), (b"floor=2000000", b"floor=20000001"), (b"mu=-20000000", b"mu=-20000001"), (b"mu=0\nsigma=1\n", b"mu=0\nsigma=0\n"), (b"mu=0", b"mu=-0"), (b"sigma=20000000", b"sigma=20000001"), (b"sigma=900019", b"sigma=+1"), (b"sigma=900019", b"mu=1"), (b"voll=900000", b"voll=900000?"), (b"sigma=900019", b"sigma=900019?")):
         yield f"{old!r} as {new!r}", MIXED.replace(old, new, 1)
     yield "an empty line after the text", MIXED + b"\n"
     yield "an empty line before the text", b"\n" + MIXED

@@ -1,8 +1,7 @@
 //! Snapshots as values, read into lent space and written from it, and their rows.
 
-use crate::inputs::{self, Ids};
 use crate::measure::{ratio, row};
-use crate::{DIFFERENT, MIDDLE};
+use crate::{Snapshots, MIDDLE};
 
 /// Reading a text into values takes at most so many times as long as pricing it.
 const MOST: f64 = 1.3;
@@ -42,15 +41,17 @@ impl Held {
 }
 
 /// Rows of reading and of writing the snapshots that are priced, and how long reading takes beside pricing.
-pub fn snapshots(curves: &ordc::CurveSet, count: u64, ids: Ids, name: &str) -> String {
-    let texts: Vec<_> = (0..DIFFERENT)
-        .map(|number| inputs::snapshot(count, ids, number))
-        .collect();
+pub fn snapshots(curves: &ordc::CurveSet, snapshots: &Snapshots) -> String {
+    let Snapshots {
+        name,
+        resources,
+        texts,
+    } = snapshots;
     let longest = texts.iter().map(Vec::len).max().unwrap_or(0);
-    let (mut ours, mut theirs) = (Held::space(count as usize), Held::space(count as usize));
+    let (mut ours, mut theirs) = (Held::space(*resources), Held::space(*resources));
     let (mut buffer, mut space) = (vec![0; longest], vec![0; longest]);
     let mut held = Vec::new();
-    for text in &texts {
+    for text in texts {
         ours.read(text).expect("the snapshot is accepted");
         theirs
             .read_by_reference(text)
@@ -62,18 +63,18 @@ pub fn snapshots(curves: &ordc::CurveSet, count: u64, ids: Ids, name: &str) -> S
         held.push(ours.clone());
     }
     row(
-        &format!("read {count} {name}"),
+        &format!("read {name}"),
         MIDDLE,
-        &texts,
-        &texts,
-        &texts,
+        texts,
+        texts,
+        texts,
         |text| ours.read(text),
         |text| theirs.read_by_reference(text),
     );
     row(
-        &format!("write {count} {name}"),
+        &format!("write {name}"),
         MIDDLE,
-        &texts,
+        texts,
         &held,
         &held,
         |held| held.write(&mut buffer),
@@ -81,7 +82,7 @@ pub fn snapshots(curves: &ordc::CurveSet, count: u64, ids: Ids, name: &str) -> S
     );
     let times = ratio(
         MIDDLE,
-        &texts,
+        texts,
         |text| ours.read(text),
         |text| curves.price(text),
     );
@@ -90,7 +91,7 @@ pub fn snapshots(curves: &ordc::CurveSet, count: u64, ids: Ids, name: &str) -> S
     } else {
         "as it should be"
     };
-    format!("{:<29}{times:>14.2}   {verdict}", format!("{count} {name}"))
+    format!("{name:<29}{times:>14.2}   {verdict}")
 }
 
 pub fn heading() -> String {

@@ -112,6 +112,23 @@ pub fn snapshot(count: u64, ids: Ids, number: u64) -> Vec<u8> {
     text.into_bytes()
 }
 
+/// The snapshot with a mark on every reading of each unit where a mark turns nothing back.
+pub fn marked(text: &[u8]) -> Vec<u8> {
+    const ALL_READINGS: i64 = 0b1_1111; // of a generator: cold30, which comes last, carries no mark
+    let snapshot = reference::read_snapshot(text).expect("the snapshot is accepted");
+    let mut header = [0; 8];
+    let mut ids = vec![0; snapshot.resources.len() * reference::ID_ROW];
+    let mut numbers = vec![0; snapshot.resources.len() * reference::NUMBER_ROW];
+    reference::read_held(text, &mut header, &mut ids, &mut numbers).expect("there is space");
+    let rows = numbers.chunks_exact_mut(reference::NUMBER_ROW);
+    for (resource, row) in snapshot.resources.iter().zip(rows) {
+        if !reference::turned_back_by_a_mark(&resource.unit) {
+            row[reference::NUMBER_ROW - 1] = ALL_READINGS;
+        }
+    }
+    reference::held_text(&header, &ids, &numbers).expect("the values are accepted")
+}
+
 /// So many hours, spread evenly over the groups, each of twelve runs.
 pub fn hours(count: u64) -> Vec<Vec<u8>> {
     let mut random = Random::new(count);

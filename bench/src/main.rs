@@ -31,15 +31,39 @@ const LONG: Runs = Runs {
     measured: 4,
 };
 
-/// How many resources the snapshots have, and how their ids look.
-const SNAPSHOTS: [(u64, Ids, &str); 6] = [
-    (1_500, Ids::Numbered, "resources"),
-    (4_096, Ids::Numbered, "resources"),
-    (1_024, Ids::Random, "ids at random"),
-    (4_096, Ids::Random, "ids at random"),
-    (1_024, Ids::Prefixed, "ids of one prefix"),
-    (4_096, Ids::Prefixed, "ids of one prefix"),
+/// How many resources the snapshots have, how their ids look, and whether readings that count nowhere are marked.
+const SNAPSHOTS: [(u64, Ids, bool, &str); 8] = [
+    (1_500, Ids::Numbered, false, "resources"),
+    (4_096, Ids::Numbered, false, "resources"),
+    (1_024, Ids::Random, false, "ids at random"),
+    (4_096, Ids::Random, false, "ids at random"),
+    (1_024, Ids::Prefixed, false, "ids of one prefix"),
+    (4_096, Ids::Prefixed, false, "ids of one prefix"),
+    (1_500, Ids::Numbered, true, "resources, marks"),
+    (4_096, Ids::Numbered, true, "resources, marks"),
 ];
+
+/// Snapshots of one row, which are priced, read and written.
+struct Snapshots {
+    name: String,
+    resources: usize,
+    texts: Vec<Vec<u8>>,
+}
+
+impl Snapshots {
+    fn of((count, ids, marks, name): (u64, Ids, bool, &str)) -> Snapshots {
+        let plain = (0..DIFFERENT).map(|number| inputs::snapshot(count, ids, number));
+        Snapshots {
+            name: format!("{count} {name}"),
+            resources: count as usize,
+            texts: if marks {
+                plain.map(|text| inputs::marked(&text)).collect()
+            } else {
+                plain.collect()
+            },
+        }
+    }
+}
 
 fn booked_by_library(hours: &[Vec<u8>]) -> ordc::Record {
     let mut record = ordc::Record::default();
@@ -58,11 +82,9 @@ fn booked_by_reference(hours: &[Vec<u8>]) -> reference::Record {
 }
 
 /// Snapshots whose reserves lie above X, so that N is evaluated for both probabilities.
-fn price(curves: &ordc::CurveSet, plain: &reference::CurveSet, count: u64, ids: Ids, name: &str) {
-    let texts: Vec<_> = (0..DIFFERENT)
-        .map(|number| inputs::snapshot(count, ids, number))
-        .collect();
-    for text in &texts {
+fn price(curves: &ordc::CurveSet, plain: &reference::CurveSet, snapshots: &Snapshots) {
+    let texts = &snapshots.texts;
+    for text in texts {
         let ours = curves.price(text).expect("the snapshot is accepted");
         let theirs = reference::price_snapshot(plain, text).expect("the snapshot is accepted");
         assert_eq!(
@@ -73,11 +95,11 @@ fn price(curves: &ordc::CurveSet, plain: &reference::CurveSet, count: u64, ids: 
         assert!(ours.pis > 0 && ours.pins > 0, "N is looked up in its table");
     }
     row(
-        &format!("price {count} {name}"),
+        &format!("price {}", snapshots.name),
         MIDDLE,
-        &texts,
-        &texts,
-        &texts,
+        texts,
+        texts,
+        texts,
         |text| curves.price(text),
         |text| reference::price_snapshot(plain, text),
     );
@@ -189,13 +211,10 @@ fn report() {
     let curves = ordc::CurveSet::from_text(&text).expect("the curves are accepted");
     let plain = reference::read_curves(&text).expect("the curves are accepted");
     heading();
-    for (count, ids, name) in SNAPSHOTS {
-        price(&curves, &plain, count, ids, name);
+    for each in SNAPSHOTS {
+        price(&curves, &plain, &Snapshots::of(each));
     }
-    let beside: Vec<String> = SNAPSHOTS
-        .into_iter()
-        .map(|(count, ids, name)| held::snapshots(&curves, count, ids, name))
-        .collect();
+    let beside = SNAPSHOTS.map(|each| held::snapshots(&curves, &Snapshots::of(each)));
     history();
     println!("{}", held::heading());
     for line in beside {

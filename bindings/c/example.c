@@ -1,6 +1,7 @@
 /* Books hours, settles them, writes the curve text to a buffer of just its length and reads it, then prices a snapshot
- * and prints the page of its curves. Last it reads the snapshot into values, takes one unit out of service, writes the
- * text and prices that too. */
+ * and prints the page of its curves. Then it reads the snapshot into values, takes one unit out of service, writes the
+ * text and prices that too. Last it marks a reading of that unit as suspect, which turns the snapshot back while the unit
+ * counts, and is kept once it is out of service. */
 #include "ordc.h"
 
 #include <inttypes.h>
@@ -147,6 +148,52 @@ static void edit_snapshot(const int64_t curves[ORDC_CURVES])
     free(text);
 }
 
+/* C's HSL is marked suspect. C is OFFNS, so the snapshot is turned back at line 32, where that number stands, until C is
+ * out of service. */
+static void mark_reading(const int64_t curves[ORDC_CURVES])
+{
+    enum { RESOURCES = 3, C = 2, STATUS = 1, HSL = 4 };
+    static const char READING[] = "hsl=293000";
+    int64_t header[ORDC_HEADER];
+    uint8_t ids[RESOURCES * ORDC_ID_ROW];
+    int64_t numbers[RESOURCES * ORDC_NUMBER_ROW], *row = numbers + C * ORDC_NUMBER_ROW;
+    const size_t ids_length = sizeof ids, numbers_length = sizeof numbers / sizeof numbers[0];
+    int64_t answer[ORDC_ANSWER];
+    uint8_t text[sizeof SNAPSHOT];
+    size_t length = 0, written = 0;
+
+    /* As it comes: hsl=293000? */
+    char marked[sizeof SNAPSHOT + 1];
+    size_t front = (size_t)(strstr(SNAPSHOT, READING) - SNAPSHOT) + strlen(READING);
+    snprintf(marked, sizeof marked, "%.*s?%s", (int)front, SNAPSHOT, SNAPSHOT + front);
+    expect_refused("marked", ordc_price(curves, (const uint8_t *)marked, strlen(marked), answer), ORDC_SUSPECT_NUMBER, 32);
+    expect_refused("marked",
+                   ordc_read_snapshot((const uint8_t *)marked, strlen(marked), header, ids, ids_length, numbers, numbers_length),
+                   ORDC_SUSPECT_NUMBER, 32);
+
+    /* As values: the mark is in the row, beside the number. */
+    expect_accepted("read snapshot", ordc_read_snapshot((const uint8_t *)SNAPSHOT, sizeof SNAPSHOT - 1, header, ids, ids_length,
+                                                        numbers, numbers_length));
+    expect(row[ORDC_MARKS] == 0, "a number that is not marked has a mark");
+    row[ORDC_MARKS] |= ORDC_MARK(HSL);
+    expect_refused("marked", ordc_snapshot_length(header, ids, ids_length, numbers, numbers_length, &length), ORDC_SUSPECT_NUMBER,
+                   32);
+    row[STATUS] = ORDC_OUT;
+    expect_accepted("length", ordc_snapshot_length(header, ids, ids_length, numbers, numbers_length, &length));
+    /* OUT has two letters fewer than OFFNS, and the mark is one byte more */
+    expect(length == sizeof SNAPSHOT - 1 - 2 + 1, "the marked snapshot has another length");
+    expect_accepted("write snapshot", ordc_write_snapshot(header, ids, ids_length, numbers, numbers_length, text, length, &written));
+    expect_accepted("price", ordc_price(curves, text, written, answer));
+    print_prices("C is OUT, its HSL marked", answer);
+    expect_accepted("read snapshot", ordc_read_snapshot(text, written, header, ids, ids_length, numbers, numbers_length));
+    expect(row[ORDC_MARKS] == ORDC_MARK(HSL) && row[HSL] == 293000, "the mark is lost");
+
+    /* What a refusal looks like: a mark on cold30, which is a flag, in line 35. */
+    row[ORDC_MARKS] = ORDC_MARK(7);
+    expect_refused("marked flag", ordc_snapshot_length(header, ids, ids_length, numbers, numbers_length, &length), ORDC_BADLY_WRITTEN,
+                   35);
+}
+
 int main(void)
 {
     int64_t record[ORDC_RECORD] = {0};
@@ -187,5 +234,6 @@ int main(void)
     expect_listing(page);
     fwrite(page, 1, sizeof page, stdout);
     edit_snapshot(curves);
+    mark_reading(curves);
     return EXIT_SUCCESS;
 }

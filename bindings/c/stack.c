@@ -10,7 +10,7 @@
 #include <sys/mman.h>
 #include <unistd.h>
 
-enum { MARK = 0xa5 };
+enum { FILL = 0xa5 };
 
 static int64_t record[ORDC_RECORD], curves[ORDC_CURVES], answer[ORDC_ANSWER];
 static uint8_t written[ORDC_CURVE_TEXT];
@@ -45,20 +45,24 @@ static void hour(int month, int clock, int runs, int power)
     }
 }
 
-/* A snapshot of so many resources, of every kind. */
-static void snapshot(int count)
+/* A snapshot of so many resources, of every kind, with marks on those where they turn nothing back. The last resource is a
+ * load, whose last number has this mark, `?` or none. */
+static void snapshot(int count, const char *mark)
 {
     static const char *const KINDS[] = {"gen", "wind", "irr", "nuke"};
+    static const char *const MARKS[] = {"", "", "?", "?"};
     length = 0;
     add("month=7\nhour=14\nlambda=2500\nfactor=9500\nprc=3000000\neea1=2300000\nshort=0\ncount=%d\n", count);
     for (int i = 0; i < count; i++) {
         add("id=RESOURCE_%d\n", i);
-        if (i % 8 == 6) {
+        if (i == count - 1) {
+            add("kind=nclr\nrrsok=1\nnet=1000\nlpc=10\nrrs=400%s\n", mark);
+        } else if (i % 8 == 6) {
             add("kind=clr\nbase=2000\nlpc=10\nnonspin=5\nregup=6\n");
         } else if (i % 8 == 7) {
             add("kind=nclr\nrrsok=1\nnet=1000\nlpc=10\nrrs=400\n");
         } else {
-            add("kind=%s\nstatus=ON\nnet=2000\nlsl=1000\nhsl=3000\nbase=1000\nnonspin=5\ncold30=0\n", KINDS[i % 4]);
+            add("kind=%s\nstatus=ON\nnet=2000\nlsl=1000\nhsl=3000%s\nbase=1000\nnonspin=5%s\ncold30=0\n", KINDS[i % 4], MARKS[i % 4], MARKS[i % 4]);
         }
     }
 }
@@ -143,13 +147,13 @@ static size_t used(void *(*call)(void *))
     uint8_t *area = mmap(NULL, guard + ORDC_STACK, PROT_READ | PROT_WRITE, MAP_PRIVATE | MAP_ANONYMOUS, -1, 0);
     expect(area != MAP_FAILED && mprotect(area, guard, PROT_NONE) == 0, "no memory");
     uint8_t *stack = area + guard;
-    memset(stack, MARK, ORDC_STACK);
+    memset(stack, FILL, ORDC_STACK);
     pthread_attr_t attributes;
     pthread_t thread;
     expect(pthread_attr_init(&attributes) == 0 && pthread_attr_setstack(&attributes, stack, ORDC_STACK) == 0 && pthread_create(&thread, &attributes, call, NULL) == 0 && pthread_join(thread, NULL) == 0, "no thread");
     pthread_attr_destroy(&attributes);
     size_t left = 0;
-    while (left < ORDC_STACK && stack[left] == MARK) {
+    while (left < ORDC_STACK && stack[left] == FILL) {
         left++;
     }
     munmap(area, guard + ORDC_STACK);
@@ -184,7 +188,11 @@ static void pages(int possible)
 static void values(int count)
 {
     char what[64];
-    snapshot(count);
+    snapshot(count, "?");
+    resources = (size_t)count;
+    snprintf(what, sizeof what, "read snapshot, %d, the last suspect", count);
+    try_call(what, read_snapshot, ORDC_SUSPECT_NUMBER);
+    snapshot(count, "");
     resources = (size_t)count - 1;
     snprintf(what, sizeof what, "read snapshot, space for %d", count - 1);
     try_call(what, read_snapshot, ORDC_BUFFER_SHORT);
@@ -201,6 +209,14 @@ static void values(int count)
     snprintf(what, sizeof what, "write snapshot, %d, short buffer", count);
     snapshot_size = length - 1;
     try_call(what, write_snapshot, ORDC_BUFFER_SHORT);
+    /* the last number of the last resource is suspect */
+    int64_t *marks = numbers + (resources - 1) * ORDC_NUMBER_ROW + ORDC_MARKS;
+    *marks = ORDC_MARK(5);
+    snprintf(what, sizeof what, "snapshot length, %d, the last suspect", count);
+    try_call(what, measure_snapshot, ORDC_SUSPECT_NUMBER);
+    snprintf(what, sizeof what, "write snapshot, %d, the last suspect", count);
+    try_call(what, write_snapshot, ORDC_SUSPECT_NUMBER);
+    *marks = 0;
     /* the id of the last resource is that of the one before */
     memcpy(ids + (resources - 1) * ORDC_ID_ROW, ids + (resources - 2) * ORDC_ID_ROW, ORDC_ID_ROW);
     snprintf(what, sizeof what, "snapshot length, %d, repeated id", count);
@@ -241,16 +257,18 @@ int main(void)
     pages(0);
     try_call("curves length, impossible", measure_curves, ORDC_IMPOSSIBLE_VALUES);
     try_call("read curves", read_curves, ORDC_ACCEPTED);
-    snapshot(3);
+    snapshot(3, "");
     try_call("price, 3 resources", price, ORDC_ACCEPTED);
-    snapshot(64);
+    snapshot(64, "");
     try_call("price, 64 resources", price, ORDC_ACCEPTED);
-    snapshot(65);
+    snapshot(65, "");
     try_call("price, 65 resources", price, ORDC_ACCEPTED);
-    snapshot(4096);
+    snapshot(4096, "");
     try_call("price, 4096 resources", price, ORDC_ACCEPTED);
     text[length++] = '\n';
     try_call("price, a byte after 4096 resources", price, ORDC_BYTES_FOLLOW);
+    snapshot(4096, "?");
+    try_call("price, 4096, the last suspect", price, ORDC_SUSPECT_NUMBER);
     values(3);
     values(64);
     values(65);

@@ -7,7 +7,8 @@ use crate::{curve_numbers, Case, Input};
 use reference::{read_curves, run_curves, settle, CurveSet};
 use std::collections::BTreeSet;
 
-/// The cases of the other operations stand before these.
+/// The cases of the other operations stand before these, but for those with
+/// marks.
 pub fn add(cases: &mut Vec<Case>) {
     let mut asked = Asked {
         cases,

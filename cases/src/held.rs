@@ -8,11 +8,14 @@ use reference::{held_length, read_held, write_held, ID_ROW, NUMBER_ROW};
 pub const ROWS: usize = 4097;
 
 /// The bytes of the longest buffer that values are written to; the longest text
-/// has 495718.
+/// has 516198.
 pub const LONGEST_BUFFER: usize = 524_288;
 
 /// No case has more edits.
 pub const MOST_EDITS: usize = 1000;
+
+/// The place of a row that holds the marks of its numbers.
+pub const MARKS: usize = 8;
 
 /// A place of the values held, and what is put there.
 #[derive(Clone, Copy, Debug, PartialEq, Eq)]
@@ -62,7 +65,20 @@ fn edited(text: &[u8], edits: &[Edit]) -> Held {
 
 /// The exact length of the text of edited values, where they are accepted.
 pub fn edited_length(text: &[u8], edits: &[Edit], ids: usize, numbers: usize) -> Option<usize> {
-    let held = edited(text, edits);
+    length_of(&edited(text, edits), ids, numbers)
+}
+
+/// The length that the text of edited values has without its marks, where they
+/// are accepted so.
+pub fn unmarked_length(text: &[u8], edits: &[Edit], ids: usize, numbers: usize) -> Option<usize> {
+    let mut held = edited(text, edits);
+    for marks in held.numbers.iter_mut().skip(MARKS).step_by(NUMBER_ROW) {
+        *marks = 0;
+    }
+    length_of(&held, ids, numbers)
+}
+
+fn length_of(held: &Held, ids: usize, numbers: usize) -> Option<usize> {
     held_length(&held.header, &held.ids[..ids], &held.numbers[..numbers]).ok()
 }
 

@@ -7,6 +7,8 @@ mod curve_text;
 mod curves_length;
 mod format;
 mod held;
+mod marked_values;
+mod marks;
 mod page;
 mod price;
 mod programs;
@@ -16,7 +18,7 @@ mod texts;
 mod write_values;
 
 pub use format::{decode, encode};
-pub use held::{checksum_of_numbers, Edit, LONGEST_BUFFER, MOST_EDITS, ROWS};
+pub use held::{checksum_of_numbers, Edit, LONGEST_BUFFER, MARKS, MOST_EDITS, ROWS};
 pub use random::Random;
 
 use reference::{
@@ -310,6 +312,8 @@ pub fn all_cases(seed: u64) -> Vec<Case> {
     read_values::add(&mut cases, &mut random);
     write_values::add(&mut cases, &mut random);
     curves_length::add(&mut cases);
+    marks::add(&mut cases);
+    marked_values::add(&mut cases, &mut random);
     cases
 }
 
@@ -319,13 +323,13 @@ pub const CAN_REFUSE: [(char, &[u32]); 12] = [
     ('S', &[1, 7, 12, 13]),
     ('R', &[2, 3, 4, 5, 6, 7, 9]),
     ('W', &[1, 14]),
-    ('P', &[1, 2, 3, 4, 5, 6, 7, 8, 9]),
-    ('p', &[2, 3, 4, 5, 6, 7, 8, 9]),
+    ('P', &[1, 2, 3, 4, 5, 6, 7, 8, 9, 15]),
+    ('p', &[2, 3, 4, 5, 6, 7, 8, 9, 15]),
     ('c', &[2, 3, 4, 5, 6, 7, 9, 10, 11, 12, 13]),
     ('G', &[1, 14]),
     ('g', &[2, 3, 4, 5, 6, 7, 9]),
-    ('V', &[2, 3, 4, 5, 6, 7, 8, 9, 14]),
-    ('T', &[6, 7, 8, 14]),
+    ('V', &[2, 3, 4, 5, 6, 7, 8, 9, 14, 15]),
+    ('T', &[6, 7, 8, 14, 15]),
     ('L', &[1]),
 ];
 

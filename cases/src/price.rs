@@ -105,11 +105,11 @@ fn off_line(amount: i64) -> String {
     generator("OFF", "gen", "OFFNS", [0, 0, amount, 0, 0, 0])
 }
 
-fn curves() -> CurveSet {
+pub fn curves() -> CurveSet {
     curves_of(900_000, 2_000_000, 0, 1_000_000)
 }
 
-fn priced(curves: CurveSet, text: impl Into<Text>) -> Input {
+pub fn priced(curves: CurveSet, text: impl Into<Text>) -> Input {
     Input::Price {
         curves,
         text: text.into(),

@@ -20,7 +20,7 @@ pub fn add(cases: &mut Vec<Case>, random: &mut Random) {
 }
 
 /// The whole input in one part.
-fn fed(text: impl Into<Text>) -> Input {
+pub fn fed(text: impl Into<Text>) -> Input {
     fed_in_two(text, 0)
 }
 
@@ -32,7 +32,7 @@ fn fed_in_two(text: impl Into<Text>, first: usize) -> Input {
     }
 }
 
-const SETTINGS: &str = "voll=900000\nfloor=2000000\n";
+pub const SETTINGS: &str = "voll=900000\nfloor=2000000\n";
 
 /// The settings, then hours with an empty line between.
 fn history(hours: &[Vec<u8>]) -> Vec<u8> {
@@ -40,7 +40,7 @@ fn history(hours: &[Vec<u8>]) -> Vec<u8> {
 }
 
 /// An hour of July from 2 to 3 in the afternoon.
-fn one_hour() -> Vec<u8> {
+pub fn one_hour() -> Vec<u8> {
     bytes(&hour_with_error(7))
 }
 
@@ -190,7 +190,7 @@ fn full_groups(cases: &mut Vec<Case>) {
     cases.case("curves: two equal hours in each group", fed(history(&all)));
 }
 
-fn program(text: impl Into<Text>) -> Input {
+pub fn program(text: impl Into<Text>) -> Input {
     Input::PriceProgram { text: text.into() }
 }
 

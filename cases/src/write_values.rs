@@ -1,7 +1,7 @@
 //! Cases of writing values as a snapshot's text, and those of a snapshot of as
 //! many resources as there can be.
 
-use crate::held::{edited_length, LONGEST_BUFFER, ROWS};
+use crate::held::{edited_length, unmarked_length, LONGEST_BUFFER, MARKS, ROWS};
 use crate::price::*;
 use crate::read_values::{into_rows, random_text, read, STATUSES};
 use crate::texts::*;
@@ -31,7 +31,7 @@ const FAR: [i64; 6] = [i64::MIN, i64::MAX, 256, -256, 1 << 32, i64::MIN + 1];
 
 /// A writing: a text's values, edited, and how much of them is handed over.
 #[derive(Clone)]
-struct Writing {
+pub struct Writing {
     text: Text,
     edits: Vec<Edit>,
     ids: usize,
@@ -40,7 +40,7 @@ struct Writing {
 
 impl Writing {
     /// The values of a text with so many resources, as they are.
-    fn of(text: impl Into<Text>, rows: usize) -> Writing {
+    pub fn of(text: impl Into<Text>, rows: usize) -> Writing {
         Writing {
             text: text.into(),
             edits: Vec::new(),
@@ -49,25 +49,34 @@ impl Writing {
         }
     }
 
-    fn edited(mut self, edits: &[Edit]) -> Writing {
+    pub fn edited(mut self, edits: &[Edit]) -> Writing {
         self.edits.extend(edits);
         self
     }
 
-    fn handing(mut self, ids: usize, numbers: usize) -> Writing {
+    pub fn handing(mut self, ids: usize, numbers: usize) -> Writing {
         self.ids = ids;
         self.numbers = numbers;
         self
     }
 
-    /// The length of the text that is written; that of the text read where none is.
+    /// The length that the text has without marks; that of the text read where
+    /// none is written.
     fn fits(&self) -> usize {
         let text = self.text.bytes();
-        edited_length(&text, &self.edits, self.ids, self.numbers).unwrap_or(text.len())
+        unmarked_length(&text, &self.edits, self.ids, self.numbers).unwrap_or(text.len())
+    }
+
+    /// The length of the text with its marks; that without them where it is
+    /// refused.
+    pub fn fits_marked(&self) -> usize {
+        let text = self.text.bytes();
+        let length = edited_length(&text, &self.edits, self.ids, self.numbers);
+        length.unwrap_or_else(|| self.fits())
     }
 
     /// Into a buffer of so many bytes.
-    fn into(self, length: usize) -> Input {
+    pub fn into(self, length: usize) -> Input {
         Input::WriteValues {
             text: self.text,
             edits: self.edits,
@@ -83,10 +92,16 @@ impl Writing {
         let length = self.fits() + 2;
         self.into(length)
     }
+
+    /// The same where the text has marks.
+    pub fn written_marked(self) -> Input {
+        let length = self.fits_marked() + 2;
+        self.into(length)
+    }
 }
 
 /// A byte of the id in a row.
-fn id_byte(row: usize, place: usize, byte: u8) -> Edit {
+pub fn id_byte(row: usize, place: usize, byte: u8) -> Edit {
     Edit::Ids(row * ID_ROW + place, byte)
 }
 
@@ -101,13 +116,13 @@ fn id(row: usize, id: &[u8]) -> Vec<Edit> {
         .collect()
 }
 
-fn number(row: usize, place: usize, value: i64) -> Edit {
+pub fn number(row: usize, place: usize, value: i64) -> Edit {
     Edit::Numbers(row * NUMBER_ROW + place, value)
 }
 
 /// One resource of every kind. The generators start at the lines 9, 18, 27 and
 /// 36, the loads at 45 and 51; the last line is 56.
-fn one_of_every_kind() -> Writing {
+pub fn one_of_every_kind() -> Writing {
     let header = Header {
         lambda: -2500,
         factor: 9750,
@@ -382,7 +397,7 @@ fn repeated(cases: &mut Vec<Case>) {
 }
 
 /// Faults at lines that follow one another, with what makes each.
-fn faults() -> Vec<(&'static str, Vec<Edit>)> {
+pub fn faults() -> Vec<(&'static str, Vec<Edit>)> {
     vec![
         ("month at line 1", vec![Edit::Header(0, 13)]),
         ("lambda at line 3", vec![Edit::Header(2, -2_000_001)]),
@@ -438,7 +453,8 @@ fn buffers_come_last(cases: &mut Vec<Case>) {
     }
 }
 
-/// Bytes and numbers that no line carries.
+/// Bytes and numbers that no line carries, and the same in the marks, of which
+/// only the lowest binary digits count.
 fn not_looked_at(cases: &mut Vec<Case>) {
     let lengths = [1, 2, 1, 16, 1, 1];
     let used = [8, 8, 8, 8, 6, 6];
@@ -455,19 +471,20 @@ fn not_looked_at(cases: &mut Vec<Case>) {
             let free = status.chain(used[row]..NUMBER_ROW);
             edits.extend(free.map(|place| number(row, place, value)));
         }
-        with(cases, format!("{name} where nothing is looked at"), &edits);
+        let label = format!("{name} where no line comes from and in the marks");
+        with(cases, label.clone(), &edits);
         // The same where a fault comes late.
         edits.push(number(5, 5, -1));
-        with(
-            cases,
-            format!("{name} where nothing is looked at, and a fault"),
-            &edits,
-        );
+        with(cases, format!("{label}, and a fault"), &edits);
     }
     for row in [0, 4, 5] {
         for place in used[row]..NUMBER_ROW {
             for value in [i64::MIN, i64::MAX] {
-                let label = format!("place {place} of row {row}, which has no use, at {value}");
+                let name = match place {
+                    MARKS => "marks",
+                    _ => "no use",
+                };
+                let label = format!("place {place} of row {row}, which has {name}, at {value}");
                 with(cases, label, &[number(row, place, value)]);
             }
         }

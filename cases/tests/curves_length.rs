@@ -37,14 +37,18 @@ fn every_stored_set_is_asked_for_once() {
     }
 }
 
-/// The cases of the length stand last, so that those before them keep their
-/// places.
+/// The cases of the length stand together after those before them, and the cases
+/// with marks after all: so that cases keep their places.
 #[test]
-fn the_length_is_asked_for_after_all_others() {
+fn the_length_is_asked_for_in_one_place() {
     let cases = all_cases(1);
-    let first = cases.len() - asked(&cases).count();
     let length = |case: &Case| case.input.letter() == 'L';
-    assert!(cases[first..].iter().all(length));
+    let first = cases.iter().position(length).unwrap();
+    let count = asked(&cases).count();
+    assert!(cases[first..][..count].iter().all(length));
+    let mark = |case: &Case| case.label.contains("mark");
+    let marked = cases.iter().skip(first + count).filter(|case| mark(case));
+    assert!(marked.count() > 7000);
 }
 
 #[test]

@@ -49,6 +49,29 @@ const BAD_VALUES: [&str; 20] = [
     "", "-", "-0", "00", "01", "-01", "+1", " 1", "1 ", "1\r", "1.0", "1e3", "--1", "1-", "x",
     "0x10", "=1", "1=", "\0", "\u{661}",
 ];
+/// Values with a mark, of which a resource's number can be the first four.
+const MARKED_VALUES: [&str; 20] = [
+    "0?",
+    "5?",
+    "-5?",
+    "2000000?",
+    "2000001?",
+    "-2000001?",
+    "?",
+    "-?",
+    "??",
+    "5??",
+    "?5",
+    "-0?",
+    "05?",
+    "+5?",
+    "5? ",
+    "5 ?",
+    "5?5",
+    "ON?",
+    "gen?",
+    "A?",
+];
 const WORDS: [&str; 24] = [
     "gen",
     "wind",
@@ -100,7 +123,7 @@ fn damage_once(random: &mut Random, text: &mut Vec<u8>) {
         }
         3 => {
             let place = random.place(text.len() + 1);
-            text.insert(place, *random.pick(b"\n=-09Ax_ \0"));
+            text.insert(place, *random.pick(b"\n=-09Ax_ \0?"));
         }
         4 => text.extend_from_slice(random.pick(&["\n", "x", "mu=0\n", "id=A\n"]).as_bytes()),
         _ => damage_line(random, text),
@@ -117,7 +140,7 @@ fn damage_line(random: &mut Random, text: &mut Vec<u8>) {
     }
     let at = random.place(lines.len());
     let other = random.place(lines.len());
-    match random.bits() % 12 {
+    match random.bits() % 15 {
         0 => {
             lines.remove(at);
         }
@@ -135,6 +158,9 @@ fn damage_line(random: &mut Random, text: &mut Vec<u8>) {
         7 | 8 => set_value(&mut lines[at], random.pick(&NUMBERS).as_bytes()),
         9 => set_value(&mut lines[at], random.pick(&BAD_VALUES).as_bytes()),
         10 => set_value(&mut lines[at], random.pick(&WORDS).as_bytes()),
+        11 => set_value(&mut lines[at], random.pick(&MARKED_VALUES).as_bytes()),
+        12 => change_mark(random, &mut lines, at),
+        13 => add_mark(&mut lines[at]),
         _ => {
             // A line of the same key elsewhere: ids repeat this way.
             let key = key_of(&lines[at]).to_vec();
@@ -145,6 +171,25 @@ fn damage_line(random: &mut Random, text: &mut Vec<u8>) {
         }
     }
     *text = lines.concat();
+}
+
+/// Doubles or removes the mark of a line from here on, or puts one on this line
+/// where none has any.
+fn change_mark(random: &mut Random, lines: &mut [Vec<u8>], at: usize) {
+    let marked = |line: &Vec<u8>| line.contains(&b'?');
+    let next = lines[at..].iter().position(marked);
+    let line = &mut lines[at + next.unwrap_or(0)];
+    if next.is_some() && random.one_in(2) {
+        line.retain(|&byte| byte != b'?');
+    } else {
+        add_mark(line);
+    }
+}
+
+/// Puts a mark at the end of a line.
+fn add_mark(line: &mut Vec<u8>) {
+    let end = line.len() - usize::from(line.ends_with(b"\n"));
+    line.insert(end, b'?');
 }
 
 fn key_of(line: &[u8]) -> &[u8] {

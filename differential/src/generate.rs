@@ -3,7 +3,8 @@
 
 use crate::damage::damage;
 use crate::held::{damage_held, disturb, Held, ID_ROW, NUMBER_ROW};
-use crate::texts::{hour_in_group, snapshot, MOST_POWER};
+use crate::marks::mark;
+use crate::texts::{hour_in_group, snapshot, Snapshot, MOST_POWER};
 use crate::{Curves, Input, Random, RecordNumbers};
 use reference::{read_snapshot, reserves, sums, PAGE_LENGTH, WRITTEN_LIMIT};
 
@@ -343,9 +344,16 @@ pub fn curves_near(random: &mut Random, text: &[u8]) -> Curves {
     curves
 }
 
+/// A random snapshot of this many resources, with marks or without.
+fn some_snapshot(random: &mut Random, count: usize) -> Snapshot {
+    let mut snapshot = snapshot(random, count);
+    mark(random, &mut snapshot);
+    snapshot
+}
+
 fn price(random: &mut Random) -> Input {
     let count = size(random);
-    let mut text = snapshot(random, count).text();
+    let mut text = some_snapshot(random, count).text();
     let mut curves = curves_near(random, &text);
     if random.one_in(2) {
         damage(random, &mut text);
@@ -395,7 +403,7 @@ fn near(random: &mut Random, fits: usize) -> usize {
 
 fn read_values(random: &mut Random) -> Input {
     let count = size(random);
-    let mut text = snapshot(random, count).text();
+    let mut text = some_snapshot(random, count).text();
     if random.one_in(2) {
         damage(random, &mut text);
     }
@@ -431,7 +439,7 @@ fn held(random: &mut Random) -> (Held, usize) {
     } else {
         size(random)
     };
-    let snapshot = snapshot(random, count);
+    let snapshot = some_snapshot(random, count);
     let mut held = Held::of(&snapshot);
     disturb(random, &mut held);
     if random.one_in(2) {

@@ -1,14 +1,15 @@
 //! Snapshots held as values: random ones, and ways to damage them.
 
-use crate::texts::{Resource, Snapshot};
+use crate::texts::{Entry, Resource, Snapshot};
 use crate::{Header, Random};
 use std::fmt::Write;
 
 /// The bytes of an id's row, and how many of them an id can have.
 pub const ID_ROW: usize = 32;
 const LONGEST_ID: usize = 16;
-/// The places of a resource's row of numbers.
+/// The places of a resource's row of numbers, and the place of the marks.
 pub const NUMBER_ROW: usize = 9;
+pub const MARKS: usize = 8;
 
 const KINDS: [&str; 6] = ["gen", "wind", "irr", "nuke", "clr", "nclr"];
 const STATUSES: [&str; 7] = ["ON", "OFF", "OFFNS", "ONTEST", "STARTUP", "SHUTDOWN", "OUT"];
@@ -35,7 +36,12 @@ impl Held {
         header[..7].copy_from_slice(&snapshot.header);
         header[7] = snapshot.resources.len() as i64;
         let (mut ids, mut numbers) = (Vec::new(), Vec::new());
-        for (id, resource) in &snapshot.resources {
+        for Entry {
+            id,
+            resource,
+            marks,
+        } in &snapshot.resources
+        {
             let mut bytes = [0; ID_ROW];
             bytes[..id.len()].copy_from_slice(id.as_bytes());
             ids.extend(bytes);
@@ -59,6 +65,7 @@ impl Held {
                     row[2..6].copy_from_slice(values);
                 }
             }
+            row[MARKS] = i64::from(*marks);
             numbers.extend(row);
         }
         Held {
@@ -90,10 +97,39 @@ pub fn id_length(row: &[u8]) -> usize {
     end.unwrap_or(LONGEST_ID)
 }
 
+/// How many numbers a resource of this kind has.
+fn numbers_of(kind: i64) -> usize {
+    if kind == CLR || kind == NCLR {
+        4
+    } else {
+        6
+    }
+}
+
 /// The places of a row, from 2 on, that its kind has no use for.
 fn free_places(kind: i64) -> std::ops::Range<usize> {
-    let used = if kind == CLR || kind == NCLR { 6 } else { 8 };
-    used..NUMBER_ROW
+    2 + numbers_of(kind)..MARKS
+}
+
+/// Another number that stands for the same marks: below 0 its magnitude counts,
+/// and binary digits beyond the numbers of the kind do not.
+fn same_marks(random: &mut Random, kind: i64, marks: i64) -> i64 {
+    let counted = (1 << numbers_of(kind)) - 1;
+    if marks & counted == 0 && random.one_in(8) {
+        return i64::MIN;
+    }
+    let more = match random.bits() % 4 {
+        0 => 0,
+        1 => counted + 1,
+        2 => 1 << random.within(6, 62),
+        _ => (random.bits() >> 1) as i64,
+    };
+    let size = more & !counted | marks & counted;
+    if random.one_in(2) {
+        -size
+    } else {
+        size
+    }
 }
 
 /// A number that means nothing where it stands.
@@ -130,6 +166,9 @@ pub fn disturb(random: &mut Random, held: &mut Held) -> bool {
                 *number = noise(random);
             }
         }
+        if random.one_in(2) {
+            numbers[MARKS] = same_marks(random, kind, numbers[MARKS]);
+        }
     }
     // Bytes and numbers that make no whole row, or rows of one sort alone.
     match random.bits() % 4 {
@@ -163,7 +202,7 @@ fn damage_once(random: &mut Random, held: &mut Held) {
         return damage_header(random, &mut held.header);
     }
     let (row, other) = (random.place(rows), random.place(rows));
-    match random.bits() % 8 {
+    match random.bits() % 9 {
         0..=2 => damage_id(random, held, row, other),
         3 => held.number_row(row)[0] = *random.pick(&[-1, 6, 7, 256, 1 << 32, i64::MIN, i64::MAX]),
         4 => held.number_row(row)[1] = *random.pick(&[-1, 7, 8, 256, 1 << 32, i64::MIN, i64::MAX]),
@@ -180,7 +219,23 @@ fn damage_once(random: &mut Random, held: &mut Held) {
                     .truncate(held.numbers.len() - random.place(NUMBER_ROW));
             }
         }
+        7 => held.number_row(row)[MARKS] = any_marks(random),
         _ => damage_number(random, held.number_row(row)),
+    }
+}
+
+/// Marks on numbers that may carry them, on flags, or both; or any number.
+fn any_marks(random: &mut Random) -> i64 {
+    let marks = match random.bits() % 4 {
+        0 => 1 << random.within(0, 5),
+        1 => random.within(0, 63),
+        2 => return noise(random),
+        _ => random.within(0, 127),
+    };
+    if random.one_in(4) {
+        -marks
+    } else {
+        marks
     }
 }
 

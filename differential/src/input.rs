@@ -74,11 +74,11 @@ pub const CAN_REFUSE: [(&str, &[u64]); OPERATIONS] = [
     ("settle", &[1, 7, 12, 13]),
     ("read_curves", &[2, 3, 4, 5, 6, 7, 9]),
     ("write_curves", &[1, 14]),
-    ("price", &[1, 2, 3, 4, 5, 6, 7, 8, 9]),
+    ("price", &[1, 2, 3, 4, 5, 6, 7, 8, 9, 15]),
     ("write_page", &[1, 14]),
-    ("read_snapshot", &[2, 3, 4, 5, 6, 7, 8, 9, 14]),
-    ("snapshot_length", &[6, 7, 8]),
-    ("write_snapshot", &[6, 7, 8, 14]),
+    ("read_snapshot", &[2, 3, 4, 5, 6, 7, 8, 9, 14, 15]),
+    ("snapshot_length", &[6, 7, 8, 15]),
+    ("write_snapshot", &[6, 7, 8, 14, 15]),
     ("curves_length", &[1]),
 ];
 
@@ -200,11 +200,14 @@ pub fn run(library: &dyn Library, input: &Input) -> Outcome {
     }
 }
 
+/// The greatest refusal number.
+const MOST_NUMBER: usize = 15;
+
 /// How often each outcome came: by operation, then by refusal number, 0
 /// standing for an acceptance.
 #[derive(Clone, Debug, Default)]
 pub struct Tally {
-    times: [[u64; 15]; OPERATIONS],
+    times: [[u64; MOST_NUMBER + 1]; OPERATIONS],
 }
 
 impl Tally {
@@ -232,7 +235,7 @@ impl Tally {
                 }
             }
         }
-        for number in 1..=14 {
+        for number in 1..=MOST_NUMBER as u64 {
             if (0..OPERATIONS).all(|operation| self.times(operation, number) == 0) {
                 missing.push(format!("refused {number} of any operation"));
             }

@@ -5,8 +5,9 @@
 //! small as it can be. [`order`] checks, on random pairs of histories and
 //! snapshots, that more reserve never raises a price, [`page`], on random curve
 //! sets, what a reader of a page relies on, [`trip`], on random values of a
-//! snapshot, that they are written and read back, and [`curve_trip`] the same on
-//! random curve sets.
+//! snapshot, that they are written and read back, [`curve_trip`] the same on
+//! random curve sets, and [`marks`], on random snapshots, what numbers marked
+//! suspect change.
 
 pub mod curve_trip;
 mod damage;
@@ -15,6 +16,7 @@ mod ffi;
 mod generate;
 mod held;
 mod input;
+pub mod marks;
 pub mod order;
 pub mod page;
 mod plain;

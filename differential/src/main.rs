@@ -1,21 +1,23 @@
-//! `differential [--seed N] [--inputs N] [--from N] [--pairs N] [--pages N] [--trips N] [--long]`
+//! `differential [--seed N] [--inputs N] [--from N] [--pairs N] [--pages N] [--trips N]
+//! [--marks N] [--long]`
 
 use differential::order::{self, Counts, SNAPSHOTS};
 use differential::{
-    curve_trip, input, page, run, show, shrink, trip, Library, Outcome, Plain, Random, Tally,
+    curve_trip, input, marks, page, run, show, shrink, trip, Library, Outcome, Plain, Random, Tally,
 };
 use std::process::ExitCode;
 use std::time::{Instant, SystemTime, UNIX_EPOCH};
 
 const USAGE: &str = "usage: differential [--seed N] [--inputs N] [--from N] [--pairs N] [--pages N]
-                    [--trips N] [--long]
+                    [--trips N] [--marks N] [--long]
   --seed N    the seed; without it one is taken from the clock
   --inputs N  so many inputs (200000)
   --from N    the place of the first input (0)
   --pairs N   so many pairs of histories and snapshots (20000)
   --pages N   so many pages (5000)
   --trips N   so many round trips of snapshots, and of curve sets (5000)
-  --long      twenty times as many of all four";
+  --marks N   so many snapshots with marks and without (5000)
+  --long      twenty times as many of all five";
 
 struct Options {
     seed: u64,
@@ -24,6 +26,7 @@ struct Options {
     pairs: u64,
     pages: u64,
     trips: u64,
+    marks: u64,
 }
 
 fn main() -> ExitCode {
@@ -45,7 +48,8 @@ fn main() -> ExitCode {
     let readable = pages(&library, &options);
     let same = trips(&library, &options);
     let same_curves = curve_trips(&library, &options);
-    if agree && ordered && readable && same && same_curves {
+    let known = suspects(&library, &options);
+    if agree && ordered && readable && same && same_curves && known {
         println!("passed");
         ExitCode::SUCCESS
     } else {
@@ -63,6 +67,7 @@ fn options() -> Option<Options> {
         pairs: 20_000,
         pages: 5_000,
         trips: 5_000,
+        marks: 5_000,
     };
     let mut arguments = std::env::args().skip(1);
     let mut times = 1;
@@ -78,6 +83,7 @@ fn options() -> Option<Options> {
             "--pairs" => &mut options.pairs,
             "--pages" => &mut options.pages,
             "--trips" => &mut options.trips,
+            "--marks" => &mut options.marks,
             _ => return None,
         };
         *value = arguments.next()?.parse().ok()?;
@@ -86,6 +92,7 @@ fn options() -> Option<Options> {
     options.pairs *= times;
     options.pages *= times;
     options.trips *= times;
+    options.marks *= times;
     Some(options)
 }
 
@@ -247,12 +254,14 @@ fn trips(library: &dyn Library, options: &Options) -> bool {
         resources,
         disturbed,
         priced,
+        marked,
     } = counts;
     println!(
         "{trips} round trips in {seconds:.1} s, of {resources} resources; {disturbed} from values \
-         with something where nothing is looked at, {priced} with a price inside its bounds"
+         with something where nothing is looked at, {priced} with a price inside its bounds, \
+         {marked} with marks"
     );
-    let telling = resources > 0 && disturbed > 0 && priced > 0;
+    let telling = resources > 0 && disturbed > 0 && priced > 0 && marked > 0;
     if options.trips > 0 && !telling {
         println!("no round trip was telling");
     }
@@ -287,4 +296,33 @@ fn curve_trips(library: &dyn Library, options: &Options) -> bool {
         println!("no round trip of a curve set was telling");
     }
     telling || options.trips == 0
+}
+
+/// Runs the snapshots with marks and without; true if nothing is broken and some
+/// were telling.
+fn suspects(library: &dyn Library, options: &Options) -> bool {
+    let start = Instant::now();
+    // Its own numbers, whatever the number of all others.
+    let seed = Random::at(options.seed, u64::MAX - 4).bits();
+    let check = |random: &mut Random| marks::check(library, random);
+    let name = "snapshot with marks";
+    let Some(counts) = repeated(name, options.marks, seed, check, marks::Counts::add) else {
+        return false;
+    };
+    let seconds = start.elapsed().as_secs_f64();
+    let marks::Counts {
+        snapshots,
+        marked,
+        priced,
+        refused,
+    } = counts;
+    println!(
+        "{snapshots} snapshots with other marks in {seconds:.1} s, {marked} accepted with some, \
+         {priced} of them with a price inside its bounds; {refused} refused by 15"
+    );
+    let telling = marked > 0 && priced > 0 && refused > 0;
+    if options.marks > 0 && !telling {
+        println!("no snapshot with marks was telling");
+    }
+    telling || options.marks == 0
 }

@@ -8,7 +8,8 @@
 //! Then neither price of the second pricing may be above the first's.
 
 use crate::damage::damage;
-use crate::texts::{hour_in_group, resource, snapshot, Resource, Snapshot, MOST_UNIT};
+use crate::marks::mark_fine;
+use crate::texts::{hour_in_group, resource, snapshot, Entry, Resource, Snapshot, MOST_UNIT};
 use crate::{show_text, Answer, Curves, Library, Random, RecordNumbers};
 use reference::{group_of, read_snapshot, reserves, sums};
 use std::fmt::Write;
@@ -173,8 +174,8 @@ fn raised(random: &mut Random, first: &Snapshot) -> Snapshot {
     let [.., prc, _, short] = &mut second.header;
     *prc = up(random, *prc, 200_000_000);
     *short = down(random, *short);
-    for (_, resource) in &mut second.resources {
-        match resource {
+    for entry in &mut second.resources {
+        match &mut entry.resource {
             Resource::Generator { values, .. } => {
                 let [_, _, hsl, base, _, _] = values;
                 *hsl = up(random, *hsl, MOST_UNIT);
@@ -203,17 +204,24 @@ fn first_snapshot(random: &mut Random) -> Snapshot {
     first.header[6] = random.uneven(0, 1_000_000);
     // Mostly a price: lambda is well below VOLL.
     first.header[2] = random.within(-10_000, 100_000);
-    for (_, one) in &mut first.resources {
+    for entry in &mut first.resources {
         if random.one_in(3) {
-            *one = resource(random);
+            entry.resource = resource(random);
         }
     }
     if random.one_in(2) {
         let lpc = random.within(0, 1000);
         let net = lpc + random.within(1, 400_000);
         let rrs = net + random.within(0, 1000);
-        let load = Resource::Nclr([1, net, lpc, rrs.min(MOST_UNIT)]);
-        first.resources.push(("SLACK".to_string(), load));
+        first.resources.push(Entry {
+            id: "SLACK".to_string(),
+            resource: Resource::Nclr([1, net, lpc, rrs.min(MOST_UNIT)]),
+            marks: 0,
+        });
+    }
+    // The second has the same marks, as raising reserve leaves them.
+    if random.one_in(4) {
+        mark_fine(random, &mut first);
     }
     first
 }

@@ -3,7 +3,7 @@
 //! The functions below hand smaller inputs, one at a time and the largest
 //! steps first, to `found`, and end with true when it takes one.
 
-use crate::held::{id_length, Held, ID_ROW, NUMBER_ROW};
+use crate::held::{id_length, Held, ID_ROW, MARKS, NUMBER_ROW};
 use crate::{Curves, Input, RecordNumbers};
 use std::time::{Duration, Instant};
 
@@ -156,7 +156,10 @@ fn smaller_values(held: &Held, found: &mut dyn FnMut(Held) -> bool) -> bool {
             found(changed(&|held| held.header = header))
         })
         || (0..held.numbers.len()).any(|place| {
-            smaller(held.numbers[place])
+            let number = held.numbers[place];
+            let marks = (place % NUMBER_ROW == MARKS).then(|| fewer_marks(number));
+            smaller(number)
+                .chain(marks.into_iter().flatten())
                 .any(|number| found(changed(&|held| held.numbers[place] = number)))
         })
 }
@@ -247,6 +250,16 @@ fn smaller(number: i64) -> impl Iterator<Item = i64> {
         .filter(move |smaller| smaller.unsigned_abs() < number.unsigned_abs())
 }
 
+/// The same marks without a sign, then one binary digit less.
+fn fewer_marks(held: i64) -> impl Iterator<Item = i64> {
+    let size = held.unsigned_abs();
+    let unsigned = (held < 0).then_some(size);
+    let fewer = (0..64).map(move |place| size & !(1 << place));
+    let fewer = fewer.filter(move |&fewer| fewer < size);
+    let all = unsigned.into_iter().chain(fewer);
+    all.filter_map(|size| i64::try_from(size).ok())
+}
+
 fn smaller_texts(text: &[u8], found: &mut dyn FnMut(Vec<u8>) -> bool) -> bool {
     let lines: Vec<&[u8]> = text.split_inclusive(|&byte| byte == b'\n').collect();
     without_parts(&lines, 7, b"count=", b"id=", found)
@@ -307,6 +320,15 @@ fn shorter_lines(line: &[u8]) -> Vec<Vec<u8>> {
     };
     let equals = body.iter().position(|&byte| byte == b'=');
     let (key, value) = body.split_at(equals.map_or(0, |place| place + 1));
+    // A mark is taken off, or stays while the number gets smaller.
+    if let [number @ .., b'?'] = value {
+        let unmarked = [key, number, end].concat();
+        let shorter = shorter_lines(&unmarked).into_iter().map(|line| {
+            let body = &line[..line.len() - end.len()];
+            [body, b"?", end].concat()
+        });
+        return [unmarked.clone()].into_iter().chain(shorter).collect();
+    }
     let text = std::str::from_utf8(value).unwrap_or_default();
     let values: Vec<Vec<u8>> = match text.parse::<i64>() {
         // The simplest factor is 1, as it rounds nothing.

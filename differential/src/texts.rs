@@ -79,7 +79,17 @@ fn sced(run: &[i64; 9]) -> i64 {
 pub struct Snapshot {
     /// month hour lambda factor prc eea1 short
     pub header: [i64; 7],
-    pub resources: Vec<(String, Resource)>,
+    pub resources: Vec<Entry>,
+}
+
+/// A resource of a snapshot.
+#[derive(Clone, Debug)]
+pub struct Entry {
+    pub id: String,
+    pub resource: Resource,
+    /// Which of its numbers are marked suspect: 1 for the first, 2 for the
+    /// second, and so on.
+    pub marks: u8,
 }
 
 #[derive(Clone, Debug)]
@@ -96,6 +106,33 @@ pub enum Resource {
     Nclr([i64; 4]),
 }
 
+impl Resource {
+    /// The lines of its words, but for the id, and its numbers with their keys.
+    fn lines(&self) -> (String, &'static [&'static str], &[i64]) {
+        match self {
+            Resource::Generator {
+                kind,
+                status,
+                values,
+            } => (
+                format!("kind={kind}\nstatus={status}\n"),
+                &["net", "lsl", "hsl", "base", "nonspin", "cold30"],
+                values,
+            ),
+            Resource::Clr(values) => (
+                "kind=clr\n".to_string(),
+                &["base", "lpc", "nonspin", "regup"],
+                values,
+            ),
+            Resource::Nclr(values) => (
+                "kind=nclr\n".to_string(),
+                &["rrsok", "net", "lpc", "rrs"],
+                values,
+            ),
+        }
+    }
+}
+
 const HEADER: [&str; 7] = ["month", "hour", "lambda", "factor", "prc", "eea1", "short"];
 
 impl Snapshot {
@@ -105,32 +142,17 @@ impl Snapshot {
             put(&mut text, key, value);
         }
         put(&mut text, "count", self.resources.len() as i64);
-        for (id, resource) in &self.resources {
-            text.extend_from_slice(format!("id={id}\n").as_bytes());
-            let (head, keys, values): (String, &[&str], &[i64]) = match resource {
-                Resource::Generator {
-                    kind,
-                    status,
-                    values,
-                } => (
-                    format!("kind={kind}\nstatus={status}\n"),
-                    &["net", "lsl", "hsl", "base", "nonspin", "cold30"],
-                    values,
-                ),
-                Resource::Clr(values) => (
-                    "kind=clr\n".to_string(),
-                    &["base", "lpc", "nonspin", "regup"],
-                    values,
-                ),
-                Resource::Nclr(values) => (
-                    "kind=nclr\n".to_string(),
-                    &["rrsok", "net", "lpc", "rrs"],
-                    values,
-                ),
-            };
-            text.extend_from_slice(head.as_bytes());
-            for (key, &value) in keys.iter().zip(values) {
-                put(&mut text, key, value);
+        for Entry {
+            id,
+            resource,
+            marks,
+        } in &self.resources
+        {
+            let (head, keys, values) = resource.lines();
+            text.extend_from_slice(format!("id={id}\n{head}").as_bytes());
+            for (place, (key, value)) in keys.iter().zip(values).enumerate() {
+                let mark = if marks >> place & 1 == 1 { "?" } else { "" };
+                text.extend_from_slice(format!("{key}={value}{mark}\n").as_bytes());
             }
         }
         text
@@ -205,7 +227,7 @@ pub fn resource(random: &mut Random) -> Resource {
     }
 }
 
-/// A random snapshot of this many resources.
+/// A random snapshot of this many resources, without marks.
 pub fn snapshot(random: &mut Random, count: usize) -> Snapshot {
     let eea1 = random.uneven(0, 200_000_000);
     let prc = match random.bits() % 4 {
@@ -233,7 +255,11 @@ pub fn snapshot(random: &mut Random, count: usize) -> Snapshot {
         short,
     ];
     let resources = (0..count)
-        .map(|place| (id(random, place), resource(random)))
+        .map(|place| Entry {
+            id: id(random, place),
+            resource: resource(random),
+            marks: 0,
+        })
         .collect();
     Snapshot { header, resources }
 }

@@ -4,10 +4,12 @@
 //! that was told, and bytes after it stay. That text read gives the same values,
 //! with 0 in every place that is not looked at and the number of resources as
 //! `count`; what stands after them stays. Written again it gives its own bytes.
-//! Its price is the one that the reference gives for the values.
+//! Its price is the one that the reference gives for the values. Marks on units
+//! on which they are fine are kept on the way.
 
 use crate::generate::{curves_near, size};
 use crate::held::{disturb, show_held, Held, ID_ROW, NUMBER_ROW};
+use crate::marks::mark_fine;
 use crate::texts::snapshot;
 use crate::{curve_set, Answer, Library, Random, Refusal};
 use reference::{price_values, snapshot_of_held};
@@ -21,6 +23,8 @@ pub struct Counts {
     pub disturbed: u64,
     /// The on-line price was above 0 and below its greatest.
     pub priced: u64,
+    /// Some number was marked.
+    pub marked: u64,
 }
 
 impl Counts {
@@ -29,13 +33,15 @@ impl Counts {
         self.resources += other.resources;
         self.disturbed += other.disturbed;
         self.priced += other.priced;
+        self.marked += other.marked;
     }
 }
 
 /// Checks one round trip. What is broken is told in the error.
 pub fn check(library: &dyn Library, random: &mut Random) -> Result<Counts, String> {
     let count = size(random);
-    let snapshot = snapshot(random, count);
+    let mut snapshot = snapshot(random, count);
+    let marked = random.one_in(2) && mark_fine(random, &mut snapshot);
     let (exact, right) = (Held::of(&snapshot), snapshot.text());
     let mut held = exact.clone();
     let disturbed = disturb(random, &mut held);
@@ -77,6 +83,7 @@ pub fn check(library: &dyn Library, random: &mut Random) -> Result<Counts, Strin
         resources: count as u64,
         disturbed: u64::from(disturbed),
         priced: u64::from(0 < online && online < greatest),
+        marked: u64::from(marked),
     })
 }
 

@@ -27,7 +27,7 @@ enum Fault {
     RepeatedFirst,
     /// A kind that is not in the list is refused by 7.
     KindOutOfRange,
-    /// The free place of a row is looked at.
+    /// A place that a load has no use for is looked at.
     FreePlace,
     /// The status of a load is looked at.
     LoadStatus,
@@ -55,7 +55,7 @@ enum Fault {
     SpaceFirst,
     /// Reading leaves the bytes after an id.
     IdLeft,
-    /// Reading leaves the free place of a row.
+    /// Reading leaves a place that a load has no use for.
     PlaceLeft,
     /// Reading clears the row after the last.
     RowCleared,
@@ -255,7 +255,8 @@ impl Faulty {
             }
             Fault::FreePlace => {
                 let text = text_of(held)?;
-                if (0..rows).any(|row| changed.number_row(row)[8] != 0) {
+                let used = |row: &[i64]| row[0] >= 4 && row[7] != 0;
+                if (0..rows).any(|row| used(changed.number_row(row))) {
                     return Err(Refusal { number: 7, line: 9 });
                 }
                 return Ok(text);
@@ -353,7 +354,14 @@ impl Library for Faulty {
                     row[17..].copy_from_slice(&old[17..]);
                 }
             }
-            Fault::PlaceLeft if count > 0 => numbers[8] = before.2[8],
+            Fault::PlaceLeft => {
+                let rows = numbers.chunks_mut(NUMBER_ROW);
+                for (row, old) in rows.zip(before.2.chunks(NUMBER_ROW)).take(count) {
+                    if row[0] >= 4 {
+                        row[7] = old[7];
+                    }
+                }
+            }
             Fault::RowCleared => {
                 if let Some(next) = numbers.get_mut(count * NUMBER_ROW) {
                     *next = 0;
@@ -530,7 +538,7 @@ fn faults_in_reading_are_made_small() {
         (Fault::Month, 1),
         (Fault::SomeRows, 8 + 9),
         (Fault::IdLeft, 8 + 9),
-        (Fault::PlaceLeft, 8 + 9),
+        (Fault::PlaceLeft, 8 + 6),
         (Fault::RowCleared, 8),
         (Fault::CountLeft, 8),
     ] {

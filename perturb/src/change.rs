@@ -19,6 +19,8 @@ pub enum ChangeKind {
     OneUp,
     OneDown,
     Doubled,
+    Marked,
+    Unmarked,
 }
 
 impl ChangeKind {
@@ -39,6 +41,8 @@ impl ChangeKind {
             ChangeKind::OneUp => "one up",
             ChangeKind::OneDown => "one down",
             ChangeKind::Doubled => "doubled",
+            ChangeKind::Marked => "marked suspect",
+            ChangeKind::Unmarked => "mark taken off",
         }
     }
 
@@ -53,6 +57,11 @@ impl ChangeKind {
                 | ChangeKind::OtherId
                 | ChangeKind::OtherWord
         )
+    }
+
+    /// Whether the number stays and its mark does not.
+    pub fn changes_the_mark(self) -> bool {
+        matches!(self, ChangeKind::Marked | ChangeKind::Unmarked)
     }
 }
 
@@ -115,16 +124,21 @@ fn other_values(readings: &[Reading], reading: &Reading) -> Vec<(ChangeKind, Str
     match &reading.holds {
         Holds::Number(range) => {
             let number = reading.number().expect("an accepted number");
+            let digits = reading.unmarked();
             // A letter where a digit was meant.
-            let slip = format!("{}O", &value[..value.len() - 1]);
+            let slip = format!("{}O", &digits[..digits.len() - 1]);
             vec![
-                (ChangeKind::MisspeltValue, slip),
-                (ChangeKind::AboveRange, (range.end() + 1).to_string()),
-                (ChangeKind::BelowRange, (range.start() - 1).to_string()),
-                (ChangeKind::Zero, "0".to_string()),
-                (ChangeKind::OneUp, (number + 1).to_string()),
-                (ChangeKind::OneDown, (number - 1).to_string()),
-                (ChangeKind::Doubled, (2 * number).to_string()),
+                (ChangeKind::MisspeltValue, reading.value_with(slip)),
+                (ChangeKind::AboveRange, reading.value_with(range.end() + 1)),
+                (
+                    ChangeKind::BelowRange,
+                    reading.value_with(range.start() - 1),
+                ),
+                (ChangeKind::Zero, reading.value_with(0)),
+                (ChangeKind::OneUp, reading.value_with(number + 1)),
+                (ChangeKind::OneDown, reading.value_with(number - 1)),
+                (ChangeKind::Doubled, reading.value_with(2 * number)),
+                other_mark(reading),
             ]
         }
         Holds::Id => {
@@ -159,6 +173,16 @@ fn other_values(readings: &[Reading], reading: &Reading) -> Vec<(ChangeKind, Str
             all.extend(others.map(|word| (ChangeKind::OtherWord, word.to_string())));
             all
         }
+    }
+}
+
+/// The number marked suspect, or without its mark where it has one.
+fn other_mark(reading: &Reading) -> (ChangeKind, String) {
+    let digits = reading.unmarked();
+    if reading.is_marked() {
+        (ChangeKind::Unmarked, digits.to_string())
+    } else {
+        (ChangeKind::Marked, format!("{digits}?"))
     }
 }
 

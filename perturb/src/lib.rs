@@ -10,7 +10,7 @@ mod tight;
 
 pub use change::{changes, Change, ChangeKind};
 pub use reading::{readings, Holds, Reading};
-pub use reason::{reasons, Reason};
+pub use reason::{mark_is_fine, reasons, Reason};
 pub use report::{csv, plain};
 pub use tight::{tighten, Edit, Tightened};
 
@@ -127,10 +127,13 @@ fn outcome_of(
     };
     let after = price_values(curves, &changed);
     let moved = (after.online, after.offline) != (before.online, before.offline);
-    let reasons = if moved {
-        Vec::new()
-    } else {
-        reasons(curves, snapshot, &changed, reading)
+    let reasons = match reading.resource {
+        _ if moved => Vec::new(),
+        Some(place) if change.kind.changes_the_mark() => {
+            let fine = mark_is_fine(&snapshot.resources[place].unit);
+            fine.into_iter().collect()
+        }
+        _ => reasons(curves, snapshot, &changed, reading),
     };
     Outcome::Priced {
         after,

@@ -40,9 +40,25 @@ impl Reading {
     /// The number held, if a number is due.
     pub fn number(&self) -> Option<i64> {
         match self.holds {
-            Holds::Number(_) => self.value.parse().ok(),
+            Holds::Number(_) => self.unmarked().parse().ok(),
             _ => None,
         }
+    }
+
+    /// The value without its mark.
+    pub fn unmarked(&self) -> &str {
+        self.value.strip_suffix('?').unwrap_or(&self.value)
+    }
+
+    /// Whether the number is marked suspect.
+    pub fn is_marked(&self) -> bool {
+        self.unmarked() != self.value
+    }
+
+    /// The value with another number, marked as the one held is.
+    pub fn value_with(&self, number: impl std::fmt::Display) -> String {
+        let mark = if self.is_marked() { "?" } else { "" };
+        format!("{number}{mark}")
     }
 }
 

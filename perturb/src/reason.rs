@@ -16,6 +16,8 @@ use std::fmt;
 pub enum Reason {
     /// An id is only compared with the other ids.
     NameOnly,
+    /// The unit is not counted, whatever the marked number is.
+    MarkIsFine(String),
     NotCounted(String),
     /// The value enters no sum of a resource that is counted.
     NotUsed(&'static str),
@@ -68,6 +70,7 @@ impl Reason {
     pub fn name(&self) -> &'static str {
         match self {
             Reason::NameOnly => "a name only",
+            Reason::MarkIsFine(_) => "a mark is fine on this unit",
             Reason::NotCounted(_) => "not counted",
             Reason::NotUsed(_) => "not used in the prices",
             Reason::AddsNothing => "adds nothing",
@@ -95,7 +98,7 @@ impl fmt::Display for Reason {
     fn fmt(&self, f: &mut fmt::Formatter) -> fmt::Result {
         write!(f, "{}", self.name())?;
         match self {
-            Reason::NotCounted(why) => write!(f, " ({why})"),
+            Reason::MarkIsFine(why) | Reason::NotCounted(why) => write!(f, " ({why})"),
             Reason::NotUsed(why) => write!(f, " ({why})"),
             Reason::HiddenByCap { net_less_lpc, rrs } => {
                 let cap = Half(3 * rrs);
@@ -218,6 +221,15 @@ fn not_in_sums(key: &str, old: &Unit, new: &Unit) -> Reason {
             }
         }
         _ => Reason::AddsNothing,
+    }
+}
+
+/// Why a mark on this unit, which was accepted with it, is fine.
+pub fn mark_is_fine(unit: &Unit) -> Option<Reason> {
+    match unit {
+        Unit::Generator(unit) => Some(Reason::MarkIsFine(why_not_counted(unit))),
+        // Every load enters a sum.
+        Unit::Clr(_) | Unit::Nclr(_) => None,
     }
 }
 

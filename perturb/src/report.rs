@@ -4,7 +4,7 @@ use crate::reading::Reading;
 use crate::reason::Reason;
 use crate::tight::Tightened;
 use crate::{Outcome, Row, Study, Verdict};
-use reference::Prices;
+use reference::{number, Prices};
 use std::fmt::Write;
 
 /// The report for people. With a tight variant, `study` is of that variant
@@ -167,6 +167,34 @@ fn summary(out: &mut String, study: &Study) {
             push(out, &format!("  {name}={value}: {}", in_full(reasons)));
         }
     }
+    push(out, "");
+    marks(out, study);
+}
+
+/// What a mark does, by resource: it goes by the unit and not by the number.
+fn marks(out: &mut String, study: &Study) {
+    let (mut refused, mut fine) = (Vec::new(), Vec::new());
+    let mut last = None;
+    for row in study.rows.iter().filter(|row| row.kind.changes_the_mark()) {
+        let reading = &study.readings[row.reading];
+        if reading.resource.is_none() || reading.resource == last {
+            continue;
+        }
+        match &row.outcome {
+            // Flags can have no mark, so that another number tells.
+            Outcome::Refused(refusal) if refusal.number != number::SUSPECT => continue,
+            Outcome::Priced { reasons, .. } => {
+                fine.push(format!("  {}: {}", reading.id, in_full(reasons)));
+            }
+            _ => refused.push(format!("  {}", reading.id)),
+        }
+        last = reading.resource;
+    }
+    push(out, "Resources of which a marked number is refused:");
+    refused.iter().for_each(|line| push(out, line));
+    push(out, "");
+    push(out, "Resources of which a marked number is not:");
+    fine.iter().for_each(|line| push(out, line));
 }
 
 /// What the tight variant brought to light.

@@ -120,7 +120,7 @@ impl Work<'_> {
         if from == to {
             return;
         }
-        reading.value = to.to_string();
+        reading.value = reading.value_with(to);
         let edit = Edit {
             line: reading.line,
             id: reading.id.clone(),

@@ -392,3 +392,196 @@ fn the_command() {
     let message = String::from_utf8(swapped.stderr).unwrap();
     assert!(message.contains("the curves text is refused as it stands: refused 4 at line 1"));
 }
+
+/// A unit of each kind and status, with the reason why a mark on it is fine, none
+/// where it turns the snapshot back.
+const MARKED: [(&str, Option<&str>); 18] = [
+    ("gen ON 0", None),
+    ("wind ON 0", None),
+    (
+        "irr ON 0",
+        Some("a unit of kind irr is never counted on line"),
+    ),
+    (
+        "nuke ON 0",
+        Some("a unit of kind nuke is never counted on line"),
+    ),
+    ("gen STARTUP 0", None),
+    ("wind STARTUP 0", None),
+    (
+        "irr STARTUP 0",
+        Some("a unit of kind irr is never counted on line"),
+    ),
+    ("gen OFF 1", None),
+    ("nuke OFF 1", None),
+    ("gen OFF 0", Some("OFF with cold30 0")),
+    ("nuke OFF 0", Some("OFF with cold30 0")),
+    (
+        "wind OFF 1",
+        Some("a unit of kind wind that is OFF is never counted"),
+    ),
+    (
+        "irr OFF 1",
+        Some("a unit of kind irr that is OFF is never counted"),
+    ),
+    ("irr OFFNS 0", None),
+    ("nuke OFFNS 0", None),
+    ("gen ONTEST 1", Some("status ONTEST")),
+    ("wind SHUTDOWN 1", Some("status SHUTDOWN")),
+    ("nuke OUT 1", Some("status OUT")),
+];
+
+#[test]
+fn a_mark_turns_back_or_is_fine_and_why() {
+    for (unit, fine) in MARKED {
+        let mut words = unit.split(' ');
+        let mut word = || words.next().unwrap();
+        let (kind, status, cold30) = (word(), word(), word());
+        let unit = format!(
+            "id=U kind={kind} status={status} net=10 lsl=100 hsl=900 base=50 nonspin=0 \
+             cold30={cold30}"
+        );
+        let listing = text(&snapshot_of(&[BIG, &unit]));
+        let study = study(&curves(), &listing).unwrap();
+        // The unit's numbers but for its flag.
+        for line in 21..=25 {
+            let outcome = outcome(&study, line, ChangeKind::Marked);
+            match (outcome, fine) {
+                (
+                    Outcome::Refused(Refusal {
+                        number: 15,
+                        line: at,
+                    }),
+                    None,
+                ) => {
+                    assert_eq!(*at, line as u64);
+                }
+                (
+                    Outcome::Priced {
+                        moved,
+                        reasons,
+                        after,
+                    },
+                    Some(why),
+                ) => {
+                    assert!(!moved);
+                    assert_eq!(*after, study.before);
+                    assert_eq!(*reasons, [Reason::MarkIsFine(why.to_string())]);
+                }
+                other => panic!("{kind} {status} line {line}: {other:?}"),
+            }
+        }
+        let report = plain(&study, None);
+        let (_, marks) = report.split_once("a marked number is refused:\n").unwrap();
+        let (refused, not) = marks.split_once("a marked number is not:\n").unwrap();
+        assert!(refused.contains("  BIG\n"), "{marks}");
+        match fine {
+            None => assert!(refused.contains("  U\n") && not.is_empty(), "{marks}"),
+            Some(why) => {
+                assert_eq!(not, format!("  U: a mark is fine on this unit ({why})\n"));
+            }
+        }
+    }
+}
+
+#[test]
+fn marks_on_loads_flags_and_the_header() {
+    let study = study(&curves(), SNAPSHOT).unwrap();
+    for reading in &study.readings {
+        let at = reading.line as u64;
+        let due = match reading.key {
+            "id" | "kind" | "status" => continue,
+            "cold30" | "rrsok" => 6,
+            _ if reading.resource.is_none() => 6,
+            // Every unit of the example counts.
+            _ => 15,
+        };
+        let refusal = Refusal {
+            number: due,
+            line: at,
+        };
+        let outcome = outcome(&study, reading.line, ChangeKind::Marked);
+        assert_eq!(*outcome, Outcome::Refused(refusal), "line {at}");
+    }
+    let report = plain(&study, None);
+    let end = "Resources of which a marked number is refused:\n  A\n  B\n  C\n  LOAD\n\n\
+               Resources of which a marked number is not:\n";
+    assert!(report.ends_with(end), "{report}");
+    assert!(
+        report.contains("marked suspect       lpc=20000?"),
+        "{report}"
+    );
+    let csv = csv(&study, None);
+    assert!(csv.contains("\n40,LOAD,lpc,20000,marked suspect,lpc=20000?,refused,15,40,,,,,\n"));
+}
+
+/// Every load enters a sum, so that a mark on any turns the snapshot back.
+#[test]
+fn marks_on_loads_that_add_nothing() {
+    let not_validated = "id=N kind=nclr rrsok=0 net=5 lpc=5 rrs=0";
+    let controllable = "id=C kind=clr base=0 lpc=0 nonspin=0 regup=0";
+    let listing = text(&snapshot_of(&[not_validated, controllable]));
+    let study = study(&curves(), &listing).unwrap();
+    for line in [12, 13, 14, 17, 18, 19, 20] {
+        let refusal = Refusal {
+            number: 15,
+            line: line as u64,
+        };
+        let outcome = outcome(&study, line, ChangeKind::Marked);
+        assert_eq!(*outcome, Outcome::Refused(refusal), "line {line}");
+    }
+}
+
+/// A snapshot that has marks where they are fine is changed as any other.
+#[test]
+fn marks_in_the_snapshot_as_given() {
+    let unit = "id=U kind=gen status=OUT net=-5? lsl=100 hsl=900? base=50 nonspin=0? cold30=0";
+    let listing = text(&snapshot_of(&[BIG, unit]));
+    let given = study(&curves(), &listing).unwrap();
+    let row = |line: usize, kind: ChangeKind| {
+        let mut rows = given.rows.iter();
+        let row = rows.find(|row| row.reading == line - 1 && row.kind == kind);
+        row.unwrap_or_else(|| panic!("line {line}: {kind:?}"))
+    };
+    for (line, kind, becomes) in [
+        (21, ChangeKind::OneUp, "net=-4?"),
+        (21, ChangeKind::Doubled, "net=-10?"),
+        (21, ChangeKind::Unmarked, "net=-5"),
+        (22, ChangeKind::Marked, "lsl=100?"),
+        (23, ChangeKind::MisspeltValue, "hsl=90O?"),
+        (23, ChangeKind::AboveRange, "hsl=2000001?"),
+        (25, ChangeKind::Zero, "nonspin=0?"),
+    ] {
+        assert_eq!(row(line, kind).becomes, becomes);
+    }
+    assert_eq!(row(25, ChangeKind::Zero).outcome, Outcome::Same);
+    for (line, kind) in [(21, ChangeKind::Unmarked), (22, ChangeKind::Marked)] {
+        let Outcome::Priced { moved, reasons, .. } = &row(line, kind).outcome else {
+            panic!("line {line} is accepted");
+        };
+        assert!(!moved);
+        assert_eq!(
+            reasons[0].to_string(),
+            "a mark is fine on this unit (status OUT)"
+        );
+    }
+    // With its marks the unit is refused in the statuses in which it counts.
+    let words: Vec<(&str, &Outcome)> = given
+        .rows
+        .iter()
+        .filter(|row| row.reading == 19 && row.kind == ChangeKind::OtherWord)
+        .map(|row| (row.becomes.as_str(), &row.outcome))
+        .collect();
+    let suspect = Outcome::Refused(Refusal {
+        number: 15,
+        line: 21,
+    });
+    for (word, outcome) in words {
+        let counts = ["status=ON", "status=OFFNS", "status=STARTUP"].contains(&word);
+        assert_eq!(*outcome == suspect, counts, "{word}");
+    }
+    assert_eq!(names(&given, "U", "hsl"), ["not counted"]);
+    let variant = tighten(&curves(), &listing).unwrap();
+    let tight = read_snapshot(&variant.text).unwrap();
+    assert_eq!(tight.resources[1].marks, 0b1_0101);
+}

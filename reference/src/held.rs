@@ -5,12 +5,14 @@
 //!   is set by reading; in writing the number of rows stands for it.
 //! - An id row has 32 bytes. The id is what stands in the first 16 before the
 //!   first byte 0, or all 16 where there is none.
-//! - A number row has nine places: the kind, the status, and from place 2 on
-//!   the numbers of the kind in the order of their lines. Place 8 is kept free.
+//! - A number row has nine places: the kind, the status, from place 2 on the
+//!   numbers of the kind in the order of their lines, and at place 8 the marks:
+//!   1 for a mark on the number at place 2, 2 for one at place 3, and so on up
+//!   to 32 for place 7, added up.
 //!
-//! Writing does not look at bytes or places that a resource has no use for;
-//! reading sets them to 0. As many resources are held as there are whole rows
-//! of both sorts.
+//! Writing does not look at bytes or places that a resource has no use for, nor
+//! at marks beyond the numbers of its kind; reading sets them to 0. As many
+//! resources are held as there are whole rows of both sorts.
 
 use crate::held_check::snapshot_of_held;
 use crate::snapshot::{read_snapshot, GeneratorKind, Kind, Status, Unit};
@@ -101,7 +103,7 @@ pub fn read_held(
     let rows = id_rows.iter_mut().zip(number_rows);
     for (resource, (id_row, number_row)) in snapshot.resources.iter().zip(rows) {
         *id_row = row_of_id(resource.id);
-        *number_row = row_of_unit(&resource.unit);
+        *number_row = row_of_unit(&resource.unit, resource.marks);
     }
     Ok(())
 }
@@ -112,23 +114,24 @@ fn row_of_id(id: &str) -> [u8; ID_ROW] {
     row
 }
 
-#[rustfmt::skip] // Kind and status, the numbers of the kind, the places not used.
-fn row_of_unit(unit: &Unit) -> [i64; NUMBER_ROW] {
+#[rustfmt::skip] // Kind and status, the numbers of the kind, places not used, the marks.
+fn row_of_unit(unit: &Unit, marks: u8) -> [i64; NUMBER_ROW] {
+    let marks = i64::from(marks);
     match unit {
         Unit::Generator(unit) => [
             number_of(&KINDS, Kind::Generator(unit.kind)), number_of(&STATUSES, unit.status),
             unit.net, unit.lsl, unit.hsl, unit.base, unit.nonspin, i64::from(unit.cold30),
-            0,
+            marks,
         ],
         Unit::Clr(load) => [
             number_of(&KINDS, Kind::Clr), 0,
             load.base, load.lpc, load.nonspin, load.regup,
-            0, 0, 0,
+            0, 0, marks,
         ],
         Unit::Nclr(load) => [
             number_of(&KINDS, Kind::Nclr), 0,
             i64::from(load.rrsok), load.net, load.lpc, load.rrs,
-            0, 0, 0,
+            0, 0, marks,
         ],
     }
 }

@@ -1,13 +1,19 @@
 //! The check of the values that a host holds, as their lines would stand.
 
 use crate::held::{listed, ID_ROW, KINDS, LONGEST_ID, NUMBER_ROW, STATUSES};
+use crate::marks::{is_marked, refuse_suspect};
 use crate::snapshot::*;
 use crate::text::{number, Refusal};
 use std::collections::HashSet;
 use std::ops::RangeInclusive;
 
+/// The marks that the numbers of a generator and of a load can have, one bit
+/// each.
+const GENERATOR_MARKS: u8 = 0b11_1111;
+const LOAD_MARKS: u8 = 0b1111;
+
 /// The snapshot that the values held stand for, each value checked in the order
-/// of the lines that the text would have.
+/// of the lines that the text would have, and then the marks.
 pub fn snapshot_of_held<'a>(
     header: &[i64; 8],
     ids: &'a [u8],
@@ -38,9 +44,10 @@ pub fn snapshot_of_held<'a>(
         if !ids_above.insert(id) {
             return Err(due.refuse(number::REPEATED_ID));
         }
-        let unit = unit_of_row(number_row, &mut due)?;
-        snapshot.resources.push(Resource { id, unit });
+        let (unit, marks) = unit_of_row(number_row, &mut due)?;
+        snapshot.resources.push(Resource { id, unit, marks });
     }
+    refuse_suspect(&snapshot)?;
     Ok(snapshot)
 }
 
@@ -62,7 +69,12 @@ impl DueLine {
         Ok(value)
     }
 
-    fn flag(&mut self, value: i64) -> Result<bool, Refusal> {
+    /// A flag, which would be badly written with a mark behind it.
+    fn flag(&mut self, value: i64, marked: bool) -> Result<bool, Refusal> {
+        if marked {
+            self.0 += 1;
+            return Err(self.refuse(number::BADLY_WRITTEN));
+        }
         Ok(self.number(value, 0..=1)? == 1)
     }
 
@@ -81,11 +93,13 @@ fn id_of_row(row: &[u8; ID_ROW]) -> Option<&str> {
     parse_id(id).filter(|id| !id.is_empty())
 }
 
-fn unit_of_row(row: &[i64; NUMBER_ROW], due: &mut DueLine) -> Result<Unit, Refusal> {
-    let [kind, status, numbers @ ..] = *row;
+/// The unit in its row, and its marks.
+fn unit_of_row(row: &[i64; NUMBER_ROW], due: &mut DueLine) -> Result<(Unit, u8), Refusal> {
+    let [kind, status, numbers @ .., held_marks] = *row;
     let kind = due.word(listed(&KINDS, kind))?;
-    Ok(match (kind, numbers) {
-        (Kind::Generator(kind), [net, lsl, hsl, base, nonspin, cold30, _]) => {
+    let marks = marks_of(kind, held_marks);
+    let unit = match (kind, numbers) {
+        (Kind::Generator(kind), [net, lsl, hsl, base, nonspin, cold30]) => {
             Unit::Generator(Generator {
                 kind,
                 status: due.word(listed(&STATUSES, status))?,
@@ -94,7 +108,7 @@ fn unit_of_row(row: &[i64; NUMBER_ROW], due: &mut DueLine) -> Result<Unit, Refus
                 hsl: due.number(hsl, POWER_RANGE)?,
                 base: due.number(base, POWER_RANGE)?,
                 nonspin: due.number(nonspin, POWER_RANGE)?,
-                cold30: due.flag(cold30)?,
+                cold30: due.flag(cold30, is_marked(marks, 5))?,
             })
         }
         (Kind::Clr, [base, lpc, nonspin, regup, ..]) => Unit::Clr(Clr {
@@ -104,10 +118,21 @@ fn unit_of_row(row: &[i64; NUMBER_ROW], due: &mut DueLine) -> Result<Unit, Refus
             regup: due.number(regup, POWER_RANGE)?,
         }),
         (Kind::Nclr, [rrsok, net, lpc, rrs, ..]) => Unit::Nclr(Nclr {
-            rrsok: due.flag(rrsok)?,
+            rrsok: due.flag(rrsok, is_marked(marks, 0))?,
             net: due.number(net, POWER_RANGE)?,
             lpc: due.number(lpc, POWER_RANGE)?,
             rrs: due.number(rrs, POWER_RANGE)?,
         }),
-    })
+    };
+    Ok((unit, marks))
+}
+
+/// The marks that the row's last number holds for a unit of this kind. Below 0
+/// its magnitude counts, and binary digits beyond the kind's numbers do not.
+fn marks_of(kind: Kind, held: i64) -> u8 {
+    let lowest_byte = held.unsigned_abs() as u8;
+    match kind {
+        Kind::Generator(_) => lowest_byte & GENERATOR_MARKS,
+        Kind::Clr | Kind::Nclr => lowest_byte & LOAD_MARKS,
+    }
 }

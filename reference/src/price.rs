@@ -55,7 +55,8 @@ pub fn price_snapshot(curves: &CurveSet, text: &[u8]) -> Result<Prices, Refusal>
     Ok(price_values(curves, &snapshot))
 }
 
-/// Prices a snapshot on the curves; all values must be in their ranges.
+/// Prices a snapshot on the curves; all values must be in their ranges. Marks
+/// on its numbers make no difference.
 pub fn price_values(curves: &CurveSet, snapshot: &Snapshot) -> Prices {
     let Reserves { rs, rsns } = reserves(snapshot, &sums(snapshot));
     let (mu, sigma) = curves.pairs[group_of(snapshot.month, snapshot.hour)];

@@ -1,5 +1,6 @@
 //! A snapshot of the grid, as read from its text.
 
+use crate::marks::refuse_suspect;
 use crate::text::{number, Lines, Refusal};
 use std::collections::HashSet;
 use std::ops::RangeInclusive;
@@ -37,6 +38,9 @@ pub struct Snapshot<'a> {
 pub struct Resource<'a> {
     pub id: &'a str,
     pub unit: Unit,
+    /// Which of the unit's numbers are marked suspect: bit i for the i-th of
+    /// them in the order of their lines. A flag has its bit, which is never set.
+    pub marks: u8,
 }
 
 #[derive(Clone, Copy, Debug, PartialEq, Eq)]
@@ -144,10 +148,12 @@ pub fn read_snapshot(text: &[u8]) -> Result<Snapshot<'_>, Refusal> {
         if !ids_above.insert(id) {
             return Err(lines.refuse(number::REPEATED_ID));
         }
-        let unit = read_unit(&mut lines)?;
-        snapshot.resources.push(Resource { id, unit });
+        let (unit, marks) = read_unit(&mut lines)?;
+        snapshot.resources.push(Resource { id, unit, marks });
     }
     lines.end()?;
+    // Only now: a fault of any line, and bytes after the last, come before.
+    refuse_suspect(&snapshot)?;
     Ok(snapshot)
 }
 
@@ -193,22 +199,60 @@ fn parse_status(value: &[u8]) -> Option<Status> {
     }
 }
 
-/// Reads a resource's lines from its `kind` on.
-fn read_unit(lines: &mut Lines) -> Result<Unit, Refusal> {
-    Ok(match lines.word("kind", parse_kind)? {
-        Kind::Generator(kind) => Unit::Generator(read_generator(lines, kind)?),
-        Kind::Clr => Unit::Clr(read_clr(lines)?),
-        Kind::Nclr => Unit::Nclr(read_nclr(lines)?),
-    })
+/// Reads a resource's lines from its `kind` on: the unit, and its marks.
+fn read_unit(lines: &mut Lines) -> Result<(Unit, u8), Refusal> {
+    let kind = lines.word("kind", parse_kind)?;
+    let mut lines = UnitLines::after_kind(lines);
+    let unit = match kind {
+        Kind::Generator(kind) => Unit::Generator(read_generator(&mut lines, kind)?),
+        Kind::Clr => Unit::Clr(read_clr(&mut lines)?),
+        Kind::Nclr => Unit::Nclr(read_nclr(&mut lines)?),
+    };
+    Ok((unit, lines.marks))
+}
+
+/// The lines of one unit, whose numbers' marks are gathered.
+struct UnitLines<'l, 'a> {
+    lines: &'l mut Lines<'a>,
+    marks: u8,
+    /// How many numbers are read.
+    numbers: u32,
+}
+
+impl<'l, 'a> UnitLines<'l, 'a> {
+    fn after_kind(lines: &'l mut Lines<'a>) -> UnitLines<'l, 'a> {
+        UnitLines {
+            lines,
+            marks: 0,
+            numbers: 0,
+        }
+    }
+
+    fn status(&mut self) -> Result<Status, Refusal> {
+        self.lines.word("status", parse_status)
+    }
+
+    fn number(&mut self, key: &str, range: RangeInclusive<i64>) -> Result<i64, Refusal> {
+        let (number, marked) = self.lines.markable_number(key, range)?;
+        self.marks |= u8::from(marked) << self.numbers;
+        self.numbers += 1;
+        Ok(number)
+    }
+
+    /// A flag carries no mark, but it has its place among the numbers.
+    fn flag(&mut self, key: &str) -> Result<bool, Refusal> {
+        self.numbers += 1;
+        self.lines.flag(key)
+    }
 }
 
 // The fields below are read in the order in which they are written here,
 // which is the order of the lines.
 
-fn read_generator(lines: &mut Lines, kind: GeneratorKind) -> Result<Generator, Refusal> {
+fn read_generator(lines: &mut UnitLines, kind: GeneratorKind) -> Result<Generator, Refusal> {
     Ok(Generator {
         kind,
-        status: lines.word("status", parse_status)?,
+        status: lines.status()?,
         net: lines.number("net", GENERATOR_NET_RANGE)?,
         lsl: lines.number("lsl", POWER_RANGE)?,
         hsl: lines.number("hsl", POWER_RANGE)?,
@@ -218,7 +262,7 @@ fn read_generator(lines: &mut Lines, kind: GeneratorKind) -> Result<Generator, R
     })
 }
 
-fn read_clr(lines: &mut Lines) -> Result<Clr, Refusal> {
+fn read_clr(lines: &mut UnitLines) -> Result<Clr, Refusal> {
     Ok(Clr {
         base: lines.number("base", POWER_RANGE)?,
         lpc: lines.number("lpc", POWER_RANGE)?,
@@ -227,7 +271,7 @@ fn read_clr(lines: &mut Lines) -> Result<Clr, Refusal> {
     })
 }
 
-fn read_nclr(lines: &mut Lines) -> Result<Nclr, Refusal> {
+fn read_nclr(lines: &mut UnitLines) -> Result<Nclr, Refusal> {
     Ok(Nclr {
         rrsok: lines.flag("rrsok")?,
         net: lines.number("net", POWER_RANGE)?,

@@ -1,5 +1,6 @@
 //! The text of a snapshot, line by line from its values.
 
+use crate::marks::is_marked;
 use crate::snapshot::{Clr, Generator, GeneratorKind, Nclr, Snapshot, Status, Unit};
 
 /// The text of a snapshot whose values are in their ranges.
@@ -11,6 +12,10 @@ pub(crate) fn snapshot_text(snapshot: &Snapshot) -> Vec<u8> {
         match value {
             Value::Word(word) => text.extend_from_slice(word.as_bytes()),
             Value::Number(number) => push_number(&mut text, number),
+            Value::Marked(number) => {
+                push_number(&mut text, number);
+                text.push(b'?');
+            }
         }
         text.push(b'\n');
     });
@@ -24,6 +29,7 @@ pub(crate) fn text_length(snapshot: &Snapshot) -> usize {
         let value_length = match value {
             Value::Word(word) => word.len(),
             Value::Number(number) => number_length(number),
+            Value::Marked(number) => number_length(number) + 1,
         };
         // The two more are the `=` and byte 10.
         length += key.len() + value_length + 2;
@@ -35,6 +41,8 @@ pub(crate) fn text_length(snapshot: &Snapshot) -> usize {
 enum Value<'a> {
     Word(&'a str),
     Number(i64),
+    /// A number marked suspect.
+    Marked(i64),
 }
 
 /// Hands each line's key and value to `line`, in the order of the lines.
@@ -53,39 +61,60 @@ fn for_each_line(snapshot: &Snapshot, mut line: impl FnMut(&str, Value)) {
     }
     for resource in &snapshot.resources {
         line("id", Value::Word(resource.id));
+        let marks = resource.marks;
         match &resource.unit {
-            Unit::Generator(unit) => for_each_generator_line(unit, &mut line),
-            Unit::Clr(load) => for_each_clr_line(load, &mut line),
-            Unit::Nclr(load) => for_each_nclr_line(load, &mut line),
+            Unit::Generator(unit) => for_each_generator_line(unit, marks, &mut line),
+            Unit::Clr(load) => for_each_clr_line(load, marks, &mut line),
+            Unit::Nclr(load) => for_each_nclr_line(load, marks, &mut line),
         }
     }
 }
 
-fn for_each_generator_line(unit: &Generator, line: &mut impl FnMut(&str, Value)) {
+fn for_each_generator_line(unit: &Generator, marks: u8, line: &mut impl FnMut(&str, Value)) {
     line("kind", Value::Word(kind_word(unit.kind)));
     line("status", Value::Word(status_word(unit.status)));
-    line("net", Value::Number(unit.net));
-    line("lsl", Value::Number(unit.lsl));
-    line("hsl", Value::Number(unit.hsl));
-    line("base", Value::Number(unit.base));
-    line("nonspin", Value::Number(unit.nonspin));
-    line("cold30", Value::Number(i64::from(unit.cold30)));
+    let numbers = [
+        ("net", unit.net),
+        ("lsl", unit.lsl),
+        ("hsl", unit.hsl),
+        ("base", unit.base),
+        ("nonspin", unit.nonspin),
+        ("cold30", i64::from(unit.cold30)),
+    ];
+    for_each_number_line(&numbers, marks, line);
 }
 
-fn for_each_clr_line(load: &Clr, line: &mut impl FnMut(&str, Value)) {
+fn for_each_clr_line(load: &Clr, marks: u8, line: &mut impl FnMut(&str, Value)) {
     line("kind", Value::Word("clr"));
-    line("base", Value::Number(load.base));
-    line("lpc", Value::Number(load.lpc));
-    line("nonspin", Value::Number(load.nonspin));
-    line("regup", Value::Number(load.regup));
+    let numbers = [
+        ("base", load.base),
+        ("lpc", load.lpc),
+        ("nonspin", load.nonspin),
+        ("regup", load.regup),
+    ];
+    for_each_number_line(&numbers, marks, line);
 }
 
-fn for_each_nclr_line(load: &Nclr, line: &mut impl FnMut(&str, Value)) {
+fn for_each_nclr_line(load: &Nclr, marks: u8, line: &mut impl FnMut(&str, Value)) {
     line("kind", Value::Word("nclr"));
-    line("rrsok", Value::Number(i64::from(load.rrsok)));
-    line("net", Value::Number(load.net));
-    line("lpc", Value::Number(load.lpc));
-    line("rrs", Value::Number(load.rrs));
+    let numbers = [
+        ("rrsok", i64::from(load.rrsok)),
+        ("net", load.net),
+        ("lpc", load.lpc),
+        ("rrs", load.rrs),
+    ];
+    for_each_number_line(&numbers, marks, line);
+}
+
+/// Hands on the numbers of one unit, each with its mark.
+fn for_each_number_line(numbers: &[(&str, i64)], marks: u8, line: &mut impl FnMut(&str, Value)) {
+    for (place, &(key, number)) in numbers.iter().enumerate() {
+        if is_marked(marks, place) {
+            line(key, Value::Marked(number));
+        } else {
+            line(key, Value::Number(number));
+        }
+    }
 }
 
 fn kind_word(kind: GeneratorKind) -> &'static str {

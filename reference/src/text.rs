@@ -17,7 +17,8 @@ impl Refusal {
     }
 }
 
-/// The refusal numbers, in checking order.
+/// The refusal numbers, in checking order but for the last, which is checked
+/// after 9.
 pub mod number {
     pub const IMPOSSIBLE_VALUES: u32 = 1;
     pub const TEXT_TOO_LONG: u32 = 2;
@@ -33,6 +34,8 @@ pub mod number {
     pub const TOO_FEW_HOURS: u32 = 12;
     pub const SIGMA_ZERO: u32 = 13;
     pub const BUFFER_SHORT: u32 = 14;
+    /// A number marked suspect on a unit that such a mark turns back.
+    pub const SUSPECT: u32 = 15;
 }
 
 /// Reads a text line by line; every line is asked for by its key.
@@ -85,9 +88,27 @@ impl<'a> Lines<'a> {
         Ok(value)
     }
 
-    /// The number on the next line.
+    /// The number on the next line, which can carry no mark.
     pub fn number(&mut self, key: &str, range: RangeInclusive<i64>) -> Result<i64, Refusal> {
         let value = self.value(key)?;
+        self.in_range(value, range)
+    }
+
+    /// The number on the next line, and whether one `?` behind it marks it as
+    /// suspect.
+    pub fn markable_number(
+        &mut self,
+        key: &str,
+        range: RangeInclusive<i64>,
+    ) -> Result<(i64, bool), Refusal> {
+        match self.value(key)? {
+            [value @ .., b'?'] => Ok((self.in_range(value, range)?, true)),
+            value => Ok((self.in_range(value, range)?, false)),
+        }
+    }
+
+    /// The number that this value of the line read last stands for.
+    fn in_range(&self, value: &[u8], range: RangeInclusive<i64>) -> Result<i64, Refusal> {
         match parse_number(value) {
             None => Err(self.refuse(number::BADLY_WRITTEN)),
             Some(number) if range.contains(&number) => Ok(number),
@@ -171,7 +192,7 @@ mod tests {
     fn badly_written_numbers() {
         for text in [
             "", "-", "-0", "00", "01", "-01", "+1", " 1", "1 ", "1\r", "1.0", "1e3", "--1", "x",
-            "0x1", "1-", "\u{661}",
+            "0x1", "1-", "\u{661}", "1?", "?",
         ] {
             assert_eq!(parse_number(text.as_bytes()), None, "{text}");
         }
@@ -206,6 +227,56 @@ mod tests {
             ("key=100000000000000000000000000000000000000000\n", 7),
         ] {
             assert_eq!(refusal(text), Err((number, 4)), "{text:?}");
+        }
+    }
+
+    #[test]
+    fn a_markable_number_hands_its_mark_on() {
+        let read = |value: &str| {
+            let text = format!("key={value}\n");
+            Lines::numbered(text.as_bytes(), 4).markable_number("key", -9..=9)
+        };
+        for (value, number, marked) in [
+            ("0", 0, false),
+            ("0?", 0, true),
+            ("9", 9, false),
+            ("9?", 9, true),
+            ("-9", -9, false),
+            ("-9?", -9, true),
+        ] {
+            assert_eq!(read(value), Ok((number, marked)), "{value}");
+        }
+        for (value, number) in [
+            ("", 5),
+            ("?", 6),
+            ("-?", 6),
+            ("??", 6),
+            ("5??", 6),
+            ("?5", 6),
+            ("?5?", 6),
+            ("5?5", 6),
+            ("-0?", 6),
+            ("05?", 6),
+            ("5 ?", 6),
+            ("5? ", 6),
+            ("5?\r", 6),
+            ("10?", 7),
+            ("-10?", 7),
+            ("99999999999999999999999999?", 7),
+            ("-99999999999999999999999999?", 7),
+        ] {
+            assert_eq!(read(value), Err(Refusal { number, line: 4 }), "{value}");
+        }
+    }
+
+    #[test]
+    fn numbers_and_flags_carry_no_mark() {
+        for value in ["1?", "0?", "10?"] {
+            let text = format!("key={value}\n");
+            let lines = || Lines::numbered(text.as_bytes(), 4);
+            let refusal = Refusal { number: 6, line: 4 };
+            assert_eq!(lines().number("key", 0..=9), Err(refusal), "{value}");
+            assert_eq!(lines().flag("key"), Err(refusal), "{value}");
         }
     }
 

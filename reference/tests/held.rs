@@ -1,21 +1,12 @@
 //! Snapshots in the form in which hosts hold them: writing and reading.
 
 mod common;
+use common::held::*;
 use common::*;
 use reference::{
-    held_length, held_text, price_snapshot, price_values, read_held, read_snapshot,
-    snapshot_of_held, write_held, Prices, Refusal, ID_ROW, NUMBER_ROW,
+    price_snapshot, price_values, read_snapshot, snapshot_of_held, write_held, Prices, Refusal,
+    ID_ROW, NUMBER_ROW,
 };
-
-/// What a host holds, or lends for reading.
-#[derive(Clone, Debug, PartialEq, Eq)]
-struct Held {
-    header: [i64; 8],
-    ids: Vec<u8>,
-    numbers: Vec<i64>,
-}
-
-type Row = [i64; NUMBER_ROW];
 
 const HEADER_KEYS: [&str; 7] = ["month", "hour", "lambda", "factor", "prc", "eea1", "short"];
 const KINDS: [&str; 6] = ["gen", "wind", "irr", "nuke", "clr", "nclr"];
@@ -47,95 +38,8 @@ fn range_of(generator: bool, key: &str) -> (i64, i64) {
     }
 }
 
-fn id_row(id: &[u8]) -> [u8; ID_ROW] {
-    let mut row = [0; ID_ROW];
-    row[..id.len()].copy_from_slice(id);
-    row
-}
-
-impl Held {
-    fn of(resources: &[(&str, Row)]) -> Held {
-        let ids = resources.iter().map(|(id, _)| id_row(id.as_bytes()));
-        Held {
-            header: [7, 14, -2500, 9750, 3_000_000, 2_300_000, 10, 0],
-            ids: ids.flatten().collect(),
-            numbers: resources.iter().flat_map(|(_, row)| *row).collect(),
-        }
-        .counted()
-    }
-
-    /// Space for this many resources, with something in every place.
-    fn lent(rows: usize) -> Held {
-        Held {
-            header: [-77; 8],
-            ids: vec![0x77; rows * ID_ROW],
-            numbers: vec![-77; rows * NUMBER_ROW],
-        }
-    }
-
-    fn rows(&self) -> usize {
-        (self.ids.len() / ID_ROW).min(self.numbers.len() / NUMBER_ROW)
-    }
-
-    /// The same with the number of rows as its eighth header number, as
-    /// reading leaves it.
-    fn counted(mut self) -> Held {
-        self.header[7] = self.rows() as i64;
-        self
-    }
-
-    fn set_id(&mut self, row: usize, id: &[u8]) {
-        self.ids[row * ID_ROW..(row + 1) * ID_ROW].copy_from_slice(&id_row(id));
-    }
-
-    fn number(&mut self, row: usize, place: usize) -> &mut i64 {
-        &mut self.numbers[row * NUMBER_ROW + place]
-    }
-
-    /// Writes with room to spare. Whatever the answer, all that no rule lets
-    /// be written must stay, and all ways to ask must agree.
-    fn written(&self) -> Result<Vec<u8>, Refusal> {
-        let Held {
-            header,
-            ids,
-            numbers,
-        } = self;
-        let room = 200 + 130 * self.rows();
-        let mut buffer = vec![0xAA; room];
-        let answer = write_held(header, ids, numbers, &mut buffer);
-        assert_eq!(held_length(header, ids, numbers), answer);
-        let after = answer.unwrap_or(0);
-        assert!(buffer[after..].iter().all(|&byte| byte == 0xAA));
-        let text = answer.map(|length| buffer[..length].to_vec());
-        assert_eq!(held_text(header, ids, numbers), text);
-        assert_eq!(snapshot_of_held(header, ids, numbers).err(), answer.err());
-        if let Ok(text) = &text {
-            assert_eq!(snapshot_of_held(header, ids, numbers), read_snapshot(text));
-        }
-        text
-    }
-
-    /// Reads into this space. A refusal must leave it.
-    fn read(&mut self, text: &[u8]) -> Result<(), Refusal> {
-        let before = self.clone();
-        let answer = read_held(text, &mut self.header, &mut self.ids, &mut self.numbers);
-        if answer.is_err() {
-            assert_eq!(*self, before);
-        }
-        answer
-    }
-}
-
-/// The values of a text, read into as many rows as it needs.
-fn values_of(text: &[u8]) -> Held {
-    let rows = read_snapshot(text).unwrap().resources.len();
-    let mut held = Held::lent(rows);
-    assert_eq!(held.read(text), Ok(()));
-    held
-}
-
 /// The text of values without any check: a number that stands for no word is
-/// written in the word's place.
+/// written in the word's place, and a flag with its mark.
 fn unchecked_text(held: &Held) -> Vec<u8> {
     let word = |list: &[&str], number: i64| match usize::try_from(number) {
         Ok(number) if number < list.len() => list[number].to_string(),
@@ -167,8 +71,11 @@ fn unchecked_text(held: &Held) -> Vec<u8> {
         if row[0] < 4 {
             line("status", word(&STATUSES, row[1]).as_bytes());
         }
+        let mut marks = row[8].unsigned_abs();
         for (key, number) in number_keys(row[0]).iter().zip(&row[2..]) {
-            line(key, number.to_string().as_bytes());
+            let mark = if marks % 2 == 1 { "?" } else { "" };
+            line(key, format!("{number}{mark}").as_bytes());
+            marks /= 2;
         }
     }
     text
@@ -251,10 +158,11 @@ fn fields_of_all_kinds() -> Vec<Field> {
     fields
 }
 
-/// The longest text there can be, in values: 4096 generators.
+/// The longest text there can be, in values: 4096 generators that are shut
+/// down, whose marks are fine.
 fn longest() -> Held {
     let row = [
-        1, 5, -2_000_000, 2_000_000, 2_000_000, 2_000_000, 2_000_000, 1, 0,
+        1, 5, -2_000_000, 2_000_000, 2_000_000, 2_000_000, 2_000_000, 1, 31,
     ];
     let ids: Vec<String> = (0..4096).map(|index| format!("UNIT_{index:011}")).collect();
     let resources: Vec<(&str, Row)> = ids.iter().map(|id| (id.as_str(), row)).collect();
@@ -274,7 +182,8 @@ impl Random {
         }
     }
 
-    /// A snapshot of 0..11 resources with all values in their ranges.
+    /// A snapshot of 0..11 resources with all values in their ranges, and with
+    /// marks on units whose status leaves them out of every sum.
     fn held(&mut self) -> Held {
         let mut held = Held::of(&[]);
         for (place, key) in HEADER_KEYS.iter().enumerate() {
@@ -292,6 +201,9 @@ impl Random {
             }
             for (place, key) in number_keys(kind).iter().enumerate() {
                 row[2 + place] = self.number(range_of(kind < 4, key));
+            }
+            if kind < 4 && ["ONTEST", "SHUTDOWN", "OUT"].contains(&STATUSES[row[1] as usize]) {
+                row[8] = self.below(32) as i64;
             }
             held.numbers.extend(row);
         }
@@ -519,7 +431,8 @@ fn what_no_line_carries_is_not_looked_at() {
         let mut held = all_kinds();
         held.header[7] = junk;
         for row in 0..6 {
-            *held.number(row, 8) = junk;
+            // The marks that a generator, and that a load, can have stay 0.
+            *held.number(row, 8) = junk.wrapping_mul(if row < 4 { 64 } else { 16 });
             let id = row * ID_ROW;
             let end = held.ids[id..id + 16].iter().position(|&byte| byte == 0);
             held.ids[id + 16..id + ID_ROW].fill(junk as u8);
@@ -576,7 +489,7 @@ fn only_whole_rows_of_both_sorts_are_held() {
 fn as_many_resources_of_greatest_length_as_allowed() {
     let held = longest();
     let written = held.written().unwrap();
-    assert_eq!(written.len(), 102 + 4096 * 121);
+    assert_eq!(written.len(), 102 + 4096 * 126);
     assert_eq!(written, unchecked_text(&held));
     assert_eq!(values_of(&written), held);
     let mut exact = vec![0; written.len()];
@@ -635,7 +548,7 @@ fn one_resource_too_many() {
     let mut held = longest();
     held.ids.extend(id_row(b"MORE"));
     held.numbers.extend([4, 0, 0, 0, 0, 0, 0, 0]);
-    assert_eq!(held.written().map(|text| text.len()), Ok(102 + 4096 * 121));
+    assert_eq!(held.written().map(|text| text.len()), Ok(102 + 4096 * 126));
     held.numbers.push(0);
     assert_eq!(held.rows(), 4097);
     assert_eq!(held.written(), refusal(7, 8));
@@ -786,7 +699,7 @@ fn values_that_are_written_and_read_are_the_same() {
 #[test]
 fn writing_refuses_what_reading_would_refuse() {
     let mut random = Random(2);
-    let mut seen = [0; 10];
+    let mut seen = [0; 16];
     for _ in 0..20_000 {
         let mut held = random.held();
         for _ in 0..=random.below(3) {
@@ -802,7 +715,7 @@ fn writing_refuses_what_reading_would_refuse() {
         seen[expected.map_or_else(|refusal| refusal.number as usize, |_| 0)] += 1;
     }
     assert!(
-        [0, 6, 7, 8].iter().all(|&number| seen[number] > 100),
+        [0, 6, 7, 8, 15].iter().all(|&number| seen[number] > 100),
         "{seen:?}"
     );
 }

@@ -2,7 +2,8 @@
 
     python edit_snapshot.py CURVES SNAPSHOT ID KEY VALUE
 
-KEY is a key of the resource with that ID, such as status or hsl.
+KEY is a key of the resource with that ID, such as status or hsl. A number that is changed here is good: where it was
+marked suspect, the mark goes.
 """
 
 import pathlib
@@ -19,9 +20,11 @@ def row(name: str, p: ordc.Prices) -> str:
 
 def change(snapshot: ordc.Snapshot, id: str, key: str, value: str) -> None:
     for resource in snapshot.resources:
-        if resource.id == id and hasattr(resource, key):
+        if resource.id == id and hasattr(resource, key) and key != "marks":
             # A word stays a word; every other reading is a whole number.
             setattr(resource, key, value if isinstance(getattr(resource, key), str) else int(value))
+            if hasattr(resource.marks, key):
+                setattr(resource.marks, key, False)
             return
     raise SystemExit(f"the snapshot has no {key} of {id}")
 

@@ -63,7 +63,7 @@ def write_page(curves: CurveSet) -> bytes:
 
 
 def price(curves: CurveSet, text: bytes) -> Prices:
-    """The prices of a snapshot's text on a curve set. Refusals: 1, 2, 3 to 8, 9."""
+    """The prices of a snapshot's text on a curve set. Refusals: 1, 2, 3 to 8, 9, 15."""
     answer = AnswerArray()
     check(library.ordc_price(ctypes.byref(curves._array()), text, len(text), ctypes.byref(answer)))
     return Prices(*answer)

@@ -15,6 +15,7 @@ EXPLANATIONS = {
     12: "A group has fewer than 2 hours.",
     13: "A group's errors have spread 0.",
     14: "The buffer is shorter than the text or the page, or the rows are fewer than the resources.",
+    15: "The number is marked suspect, on a unit where that turns the snapshot back: one that enters a sum, or may enter one.",
 }
 
 _OF_A_GROUP = (12, 13)
@@ -24,7 +25,7 @@ class Refused(Exception):
     """An operation refused its input, and changed nothing.
 
     Attributes:
-        number: the refusal's number, 1 to 14.
+        number: the refusal's number, 1 to 15.
         line: the line it concerns, the first line of the text, or of the text that would be written, being 1; for 12
             and 13 the group, 0 to 23; else 0.
         explanation: a sentence in plain words.

@@ -54,6 +54,20 @@ _STATUSES = list(Status)
 
 
 @dataclass
+class GeneratorMarks:
+    """Which of a generator's readings are marked suspect; `cold30` carries no mark."""
+
+    net: bool = False
+    lsl: bool = False
+    hsl: bool = False
+    base: bool = False
+    nonspin: bool = False
+
+    def _by_number(self) -> Tuple[bool, ...]:
+        return (self.net, self.lsl, self.hsl, self.base, self.nonspin)
+
+
+@dataclass
 class Generator:
     """A generator, with its readings in kW.
 
@@ -67,6 +81,7 @@ class Generator:
         base: base point.
         nonspin: Non-Spin.
         cold30: whether it can start from cold within 30 minutes.
+        marks: which of these readings are marked suspect.
     """
 
     id: str
@@ -78,10 +93,24 @@ class Generator:
     base: int
     nonspin: int
     cold30: bool
+    marks: GeneratorMarks = field(default_factory=GeneratorMarks)
 
     def _numbers(self) -> Tuple:
         words = (_place_of(_GENERATOR_KINDS, self.kind), _place_of(_STATUSES, self.status))
         return words + (self.net, self.lsl, self.hsl, self.base, self.nonspin, self.cold30)
+
+
+@dataclass
+class ControllableLoadMarks:
+    """Which of a controllable load's readings are marked suspect."""
+
+    base: bool = False
+    lpc: bool = False
+    nonspin: bool = False
+    regup: bool = False
+
+    def _by_number(self) -> Tuple[bool, ...]:
+        return (self.base, self.lpc, self.nonspin, self.regup)
 
 
 @dataclass
@@ -94,6 +123,7 @@ class ControllableLoad:
         lpc: LPC.
         nonspin: Non-Spin.
         regup: Reg-Up.
+        marks: which of these readings are marked suspect.
     """
 
     id: str
@@ -101,9 +131,23 @@ class ControllableLoad:
     lpc: int
     nonspin: int
     regup: int
+    marks: ControllableLoadMarks = field(default_factory=ControllableLoadMarks)
 
     def _numbers(self) -> Tuple:
         return (_CLR, 0, self.base, self.lpc, self.nonspin, self.regup)
+
+
+@dataclass
+class OtherLoadMarks:
+    """Which of another load's readings are marked suspect; `rrsok` carries no mark."""
+
+    net: bool = False
+    lpc: bool = False
+    rrs: bool = False
+
+    def _by_number(self) -> Tuple[bool, ...]:
+        # The first number is rrsok.
+        return (False, self.net, self.lpc, self.rrs)
 
 
 @dataclass
@@ -116,6 +160,7 @@ class OtherLoad:
         net: net consumption.
         lpc: LPC.
         rrs: RRS.
+        marks: which of these readings are marked suspect.
     """
 
     id: str
@@ -123,6 +168,7 @@ class OtherLoad:
     net: int
     lpc: int
     rrs: int
+    marks: OtherLoadMarks = field(default_factory=OtherLoadMarks)
 
     def _numbers(self) -> Tuple:
         return (_NCLR, 0, self.rrsok, self.net, self.lpc, self.rrs)
@@ -137,6 +183,11 @@ class Snapshot:
 
     Any values can be held. What no text can have is refused where the text is asked for, at the line where it would
     stand.
+
+    A reading that telemetry flagged is marked suspect, in the text by one `?` after the number. On a unit that enters a
+    sum, or may enter one, a marked reading turns the snapshot back: reading, pricing and writing refuse it by 15 at its
+    line. On any other unit the mark is kept, and the price is that of the snapshot without it. docs/FORMAT.md lists the
+    units.
 
     Attributes:
         month: 1 to 12.
@@ -160,7 +211,7 @@ class Snapshot:
 
     @staticmethod
     def from_text(text: bytes) -> "Snapshot":
-        """The snapshot of a text. Refusals: 2, 3 to 8, 9."""
+        """The snapshot of a text. Refusals: 2, 3 to 8, 9, 15."""
         # Rows for as many resources as the text can have, so that it is never refused for want of space.
         rows = min(len(text) // _SHORTEST_RESOURCE, RESOURCES)
         header = HeaderArray()
@@ -172,7 +223,7 @@ class Snapshot:
         return Snapshot(*values, [_resource(ids, numbers, row) for row in range(count)])
 
     def to_text(self) -> bytes:
-        """The snapshot's text, as `ordc.price` takes it. Refusals: 6, 7, 8, at the line that would be wrong.
+        """The snapshot's text, as `ordc.price` takes it. Refusals: 6, 7, 8, at the line that would be wrong, then 15.
 
         Reading it gives an equal snapshot, and a snapshot that was read from a text gives that text.
         """
@@ -212,16 +263,28 @@ def _id_row(id: str) -> bytes:
 
 def _number_row(resource: Resource) -> List[int]:
     numbers = [_nearest(number) for number in resource._numbers()]
-    return numbers + [0] * (NUMBER_ROW - len(numbers))
+    unused = [0] * (NUMBER_ROW - 1 - len(numbers))
+    return numbers + unused + [_laid(resource.marks._by_number())]
+
+
+def _laid(marks: Tuple[bool, ...]) -> int:
+    # 1 for the first number of the kind, 2 for the second, then 4, 8 and 16, added up. Another number than 0 or 1 would
+    # mark other readings.
+    for mark in marks:
+        if not isinstance(mark, bool):
+            raise TypeError(f"a mark is True or False, not {mark!r}")
+    return sum(mark << place for place, mark in enumerate(marks))
 
 
 def _resource(ids: ctypes.Array, numbers: ctypes.Array, row: int) -> Resource:
     id = ids[row * ID_ROW : row * ID_ROW + _LONGEST_ID].rstrip(b"\0").decode("ascii")
-    kind, status, *read = numbers[row * NUMBER_ROW : (row + 1) * NUMBER_ROW]
+    kind, status, *read, laid = numbers[row * NUMBER_ROW : (row + 1) * NUMBER_ROW]
+    marked = [bool(laid >> place & 1) for place in range(len(read))]
     if kind == _CLR:
-        return ControllableLoad(id, *read[:4])
+        return ControllableLoad(id, *read[:4], ControllableLoadMarks(*marked[:4]))
     if kind == _NCLR:
         rrsok, net, lpc, rrs = read[:4]
-        return OtherLoad(id, bool(rrsok), net, lpc, rrs)
-    net, lsl, hsl, base, nonspin, cold30 = read[:6]
-    return Generator(id, _GENERATOR_KINDS[kind], _STATUSES[status], net, lsl, hsl, base, nonspin, bool(cold30))
+        return OtherLoad(id, bool(rrsok), net, lpc, rrs, OtherLoadMarks(*marked[1:4]))
+    net, lsl, hsl, base, nonspin, cold30 = read
+    words = (_GENERATOR_KINDS[kind], _STATUSES[status])
+    return Generator(id, *words, net, lsl, hsl, base, nonspin, bool(cold30), GeneratorMarks(*marked[:5]))

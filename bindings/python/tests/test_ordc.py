@@ -293,6 +293,9 @@ class Operations(unittest.TestCase):
         self.refused(11, 0, ordc.book, ordc.Record(), hour(0, 20000001))
         self.refused(12, 0, ordc.settle, ordc.Record(), 0, 0)
         self.refused(13, 0, ordc.settle, booked(5, 5), 0, 0)
+        self.refused(15, 32, ordc.price, curves, LISTING.replace(b"hsl=293000", b"hsl=293000?"))
+        # 14 comes of no operation here, all of which lend enough; test_page_buffers and others have it.
+        self.assertEqual(list(ordc.EXPLANATIONS), list(range(1, 16)))
 
     def test_numbers_that_do_not_fit(self):
         with self.assertRaises(OverflowError):

@@ -13,7 +13,8 @@ from ordc import _library
 EXAMPLES = pathlib.Path(__file__).resolve().parents[1] / "examples"
 CURVES = (EXAMPLES / "listing.curves").read_bytes()
 LISTING = (EXAMPLES / "snapshots" / "1-listing.txt").read_bytes()
-ACCEPTED = sorted(set((EXAMPLES / "snapshots").iterdir()) - {EXAMPLES / "snapshots" / "4-empty-hsl.txt"})
+REFUSED = {EXAMPLES / "snapshots" / name for name in ("4-empty-hsl.txt", "7-suspect-hsl.txt")}
+ACCEPTED = sorted(set((EXAMPLES / "snapshots").iterdir()) - REFUSED)
 # Header at lines 1 to 8; six generators at lines 9, 18, 27, 36, 45 and 54; a clr at 63; an nclr at 69 and at 75. The
 # last line is 80.
 ALL_KINDS = (EXAMPLES / "snapshots" / "5-all-kinds.txt").read_bytes()
@@ -103,7 +104,7 @@ class Snapshots(unittest.TestCase):
         self.assertEqual(f"{generator.kind} {generator.status}", "gen OFF")
 
     def test_written_back(self):
-        self.assertEqual(len(ACCEPTED), 4)
+        self.assertEqual(len(ACCEPTED), 5)
         for path in ACCEPTED:
             text = path.read_bytes()
             self.assertEqual(ordc.Snapshot.from_text(text).to_text(), text)
@@ -223,9 +224,14 @@ class Snapshots(unittest.TestCase):
         for i in range(4096):
             id = f"UNIT_{i:011}"
             longest.resources.append(ordc.Generator(id, "wind", "SHUTDOWN", -power, power, power, power, power, True))
-        text = longest.to_text()
-        self.assertEqual(len(text), 495718)
-        self.assertEqual(ordc.Snapshot.from_text(text), longest)
+        # The header has 9 + 8 + 16 + 13 + 14 + 15 + 16 + 11 = 102 bytes. A resource has 20 + 10 + 16 + 13 + 12 + 12 +
+        # 13 + 16 + 9 = 121, and five more where all its readings are marked.
+        for marked, length in ((False, 102 + 4096 * 121), (True, 516198)):
+            for resource in longest.resources:
+                resource.marks = ordc.GeneratorMarks(*[marked] * 5)
+            text = longest.to_text()
+            self.assertEqual(len(text), length)
+            self.assertEqual(ordc.Snapshot.from_text(text), longest)
         last = longest.resources[4095]
         last.id = "UNIT_00000000000"
         self.unwritable(8, 8 + 9 * 4095 + 1, longest)
@@ -280,13 +286,16 @@ class Snapshots(unittest.TestCase):
 
     def test_what_writing_does_not_look_at(self):
         # The eighth number of the header, the bytes after the byte 0 that ends an id, the status of a load, the places
-        # that a kind does not use, and what is left over of rows; to_text lays 0 there and leaves nothing over.
+        # that a kind does not use, marks beyond the numbers of a kind, and what is left over of rows; to_text lays 0
+        # there and leaves nothing over.
         _, ids, _, numbers, _ = VALUES._held()
         ids, numbers = bytearray(ids), list(numbers)
         for row, resource in enumerate(VALUES.resources):
             ids[32 * row + len(resource.id) + 1 : 32 * row + 32] = b"z" * (31 - len(resource.id))
-            for place in (8,) if row < 6 else (1, 6, 7, 8):
+            for place in () if row < 6 else (1, 6, 7):
                 numbers[9 * row + place] = -1
+            # a generator has six numbers, a load four
+            numbers[9 * row + 8] = -64 if row < 6 else -16
         for more_ids, more_numbers in ((0, 0), (31, 8), (64, 8), (31, 18)):
             header = _library.HeaderArray(8, 16, 4500, 9800, 2900000, 2300000, 5000, -1)
             laid = (ctypes.c_int64 * (81 + more_numbers))(*numbers, *[-1] * more_numbers)

@@ -2,9 +2,9 @@
 //!
 //! Hours are booked on a [`Record`], a record settles into a [`CurveSet`], and a curve set prices a
 //! snapshot's text into [`Prices`] or is written as a page for people to read. A text is read into a
-//! [`Snapshot`], whose values can be changed, and written again. Power is in whole kW, money in whole
-//! cents per MWh, shares of one in billionths. What an operation refuses is a [`Refusal`], and then
-//! nothing has changed.
+//! [`Snapshot`], whose values can be changed, and written again; it keeps which readings are marked
+//! suspect. Power is in whole kW, money in whole cents per MWh, shares of one in billionths. What an
+//! operation refuses is a [`Refusal`], and then nothing has changed.
 //!
 //! ```
 //! let curves = ordc::CurveSet {
@@ -29,7 +29,8 @@ mod snapshot;
 pub use raw::{read_snapshot, snapshot_length, write_snapshot};
 pub use refusal::Refusal;
 pub use snapshot::{
-    ControllableLoad, Generator, GeneratorKind, OtherLoad, Resource, Snapshot, Status, Unit,
+    ControllableLoad, ControllableLoadMarks, Generator, GeneratorKind, GeneratorMarks, OtherLoad,
+    OtherLoadMarks, Resource, Snapshot, Status, Unit,
 };
 
 /// Four seasons of six four-hour blocks.
@@ -47,7 +48,7 @@ pub const HEADER: usize = raw::HEADER;
 /// Each resource has a row of this many bytes, which holds its id.
 pub const ID_ROW: usize = raw::ID_ROW;
 
-/// Each resource has a row of this many numbers: kind, status, and the numbers of its kind.
+/// Each resource has a row of this many numbers: kind, status, the numbers of its kind, and last their marks.
 pub const NUMBER_ROW: usize = raw::NUMBER_ROW;
 
 /// No snapshot has more resources than this.
@@ -186,7 +187,7 @@ impl CurveSet {
     /// Prices a snapshot's text.
     ///
     /// # Errors
-    /// 1, 2, 3 to 8, 9.
+    /// 1, 2, 3 to 8, 9, 15.
     pub fn price(&self, text: &[u8]) -> Result<Prices, Refusal> {
         let [rs, rsns, pis, pins, online, offline] = raw::price(&self.values(), text)?;
         Ok(Prices {

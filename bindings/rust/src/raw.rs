@@ -136,7 +136,7 @@ pub fn price(curves: &[i64; CURVES], text: &[u8]) -> Result<[i64; ANSWER], Refus
 /// `include/ordc.h` documents the layout.
 ///
 /// # Errors
-/// 2, 3 to 8, 9, 14; header and rows are then as they were.
+/// 2, 3 to 8, 9, 15, 14, in this order; header and rows are then as they were.
 pub fn read_snapshot(
     text: &[u8],
     header: &mut [i64; HEADER],
@@ -159,7 +159,7 @@ pub fn read_snapshot(
 /// The length of the text that [`write_snapshot`] writes.
 ///
 /// # Errors
-/// 6, 7, 8.
+/// 6, 7, 8, then 15.
 pub fn snapshot_length(
     header: &[i64; HEADER],
     ids: &[u8],
@@ -183,7 +183,7 @@ pub fn snapshot_length(
 /// it stay. The resources are as many as there are whole rows of both sorts, whatever the header's eighth number is.
 ///
 /// # Errors
-/// 6, 7, 8, 14; the buffer is then as it was.
+/// 6, 7, 8, then 15, then 14; the buffer is then as it was.
 pub fn write_snapshot(
     header: &[i64; HEADER],
     ids: &[u8],

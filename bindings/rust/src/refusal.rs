@@ -3,7 +3,7 @@
 use std::error::Error;
 use std::fmt;
 
-/// A refusal's number, 1 to 14, and the line it concerns: the first line of the text, or of the text that would be
+/// A refusal's number, 1 to 15, and the line it concerns: the first line of the text, or of the text that would be
 /// written, is 1; for 12 and 13 it is the group, 0 to 23; 0 where no line is concerned.
 #[derive(Clone, Copy, Debug, PartialEq, Eq)]
 pub struct Refusal {
@@ -29,6 +29,7 @@ impl Refusal {
             12 => "a group has fewer than 2 hours",
             13 => "a group's errors have spread 0",
             14 => "the buffer is shorter than the text or the page, or the rows are fewer than the resources",
+            15 => "a number is marked suspect, on a unit where that turns the snapshot back",
             _ => "refused",
         }
     }

@@ -3,6 +3,12 @@
 use crate::raw::{HEADER, ID_ROW, NUMBER_ROW, RESOURCES};
 use crate::snapshot::*;
 
+/// The place of a row's first number, after its kind and its status.
+const FIRST_NUMBER: usize = 2;
+
+/// The place of a row's marks.
+const MARKS: usize = NUMBER_ROW - 1;
+
 /// No id is longer.
 const LONGEST_ID: usize = 16;
 
@@ -110,40 +116,71 @@ fn id_of(row: &[u8]) -> String {
     bytes.map(|&byte| char::from(byte)).collect()
 }
 
-#[rustfmt::skip] // Kind and status, the numbers of the kind, the places that it does not use.
+#[rustfmt::skip] // Kind and status, the numbers of the kind, the places that it does not use, the marks.
 fn number_row(unit: &Unit) -> [i64; NUMBER_ROW] {
+    let marks = marks_of(unit);
     match unit {
         Unit::Generator(unit) => [
             place_of(&GENERATOR_KINDS, unit.kind), place_of(&STATUSES, unit.status),
             unit.net, unit.lsl, unit.hsl, unit.base, unit.nonspin, i64::from(unit.cold30),
-            0,
+            marks,
         ],
         Unit::ControllableLoad(load) => [
             CLR, 0,
             load.base, load.lpc, load.nonspin, load.regup,
-            0, 0, 0,
+            0, 0, marks,
         ],
         Unit::OtherLoad(load) => [
             NCLR, 0,
             i64::from(load.rrsok), load.net, load.lpc, load.rrs,
-            0, 0, 0,
+            0, 0, marks,
         ],
     }
 }
 
+/// The marks of a unit's numbers as one number: 1 for the first of them, 2 for the second, then 4, 8 and 16, added up.
+fn marks_of(unit: &Unit) -> i64 {
+    let laid = |marks: &[bool]| {
+        let bits = marks.iter().enumerate();
+        bits.map(|(bit, &mark)| i64::from(mark) << bit).sum()
+    };
+    match unit {
+        Unit::Generator(Generator { marks, .. }) => {
+            laid(&[marks.net, marks.lsl, marks.hsl, marks.base, marks.nonspin])
+        }
+        Unit::ControllableLoad(ControllableLoad { marks, .. }) => {
+            laid(&[marks.base, marks.lpc, marks.nonspin, marks.regup])
+        }
+        // The first number is rrsok, a flag, which carries no mark.
+        Unit::OtherLoad(OtherLoad { marks, .. }) => laid(&[false, marks.net, marks.lpc, marks.rrs]),
+    }
+}
+
 fn unit_of(row: &[i64]) -> Unit {
+    let marked = |place| row[MARKS] >> (place - FIRST_NUMBER) & 1 == 1;
     match row[0] {
         CLR => Unit::ControllableLoad(ControllableLoad {
             base: row[2],
             lpc: row[3],
             nonspin: row[4],
             regup: row[5],
+            marks: ControllableLoadMarks {
+                base: marked(2),
+                lpc: marked(3),
+                nonspin: marked(4),
+                regup: marked(5),
+            },
         }),
         NCLR => Unit::OtherLoad(OtherLoad {
             rrsok: row[2] != 0,
             net: row[3],
             lpc: row[4],
             rrs: row[5],
+            marks: OtherLoadMarks {
+                net: marked(3),
+                lpc: marked(4),
+                rrs: marked(5),
+            },
         }),
         kind => Unit::Generator(Generator {
             kind: GENERATOR_KINDS[kind as usize],
@@ -154,6 +191,13 @@ fn unit_of(row: &[i64]) -> Unit {
             base: row[5],
             nonspin: row[6],
             cold30: row[7] != 0,
+            marks: GeneratorMarks {
+                net: marked(2),
+                lsl: marked(3),
+                hsl: marked(4),
+                base: marked(5),
+                nonspin: marked(6),
+            },
         }),
     }
 }

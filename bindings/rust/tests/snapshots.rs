@@ -1,133 +1,21 @@
+mod common;
+use common::*;
 use ordc::{
-    read_snapshot, snapshot_length, write_snapshot, ControllableLoad, CurveSet, Generator,
-    GeneratorKind, OtherLoad, Prices, Refusal, Resource, Snapshot, Status, Unit, HEADER, ID_ROW,
+    ControllableLoad, ControllableLoadMarks, CurveSet, Generator, GeneratorKind, GeneratorMarks,
+    OtherLoad, OtherLoadMarks, Prices, Refusal, Resource, Snapshot, Status, Unit, ID_ROW,
     NUMBER_ROW, RESOURCES,
 };
 
 const CURVES: &[u8] = include_bytes!("../../python/examples/listing.curves");
 const LISTING: &[u8] = include_bytes!("../../python/examples/snapshots/1-listing.txt");
-/// Header at lines 1 to 8; six generators at lines 9, 18, 27, 36, 45 and 54; a clr at 63; an nclr at 69 and at 75. The
-/// last line is 80.
-const ALL_KINDS: &str = include_str!("../../python/examples/snapshots/5-all-kinds.txt");
-const FIRST_LINES: [u64; 9] = [9, 18, 27, 36, 45, 54, 63, 69, 75];
 const EMPTY_HSL: &[u8] = include_bytes!("../../python/examples/snapshots/4-empty-hsl.txt");
-const ACCEPTED: [&[u8]; 4] = [
+const ACCEPTED: [&[u8]; 5] = [
     LISTING,
     include_bytes!("../../python/examples/snapshots/2-prc-at-eea1.txt"),
     include_bytes!("../../python/examples/snapshots/3-below-lsl.txt"),
     ALL_KINDS.as_bytes(),
+    include_bytes!("../../python/examples/snapshots/6-marked.txt"),
 ];
-
-/// The rows of ALL_KINDS, laid by hand.
-#[rustfmt::skip]
-const NUMBERS: [[i64; NUMBER_ROW]; 9] = [
-    [0, 0, 1_190_000, 600_000, 2_000_000, 1_200_000, 50_000, 0, 0],
-    [0, 2, 0, 150_000, 400_000, 0, 400_000, 0, 0],
-    [0, 1, 0, 40_000, 100_000, 0, 0, 1, 0],
-    [1, 0, 900_000, 0, 1_900_000, 900_000, 0, 0, 0],
-    [2, 0, 500_000, 0, 800_000, 500_000, 0, 0, 0],
-    [3, 0, 1_250_000, 1_000_000, 1_300_000, 1_250_000, 0, 0, 0],
-    [4, 0, 300_000, 50_000, 30_000, 40_000, 0, 0, 0],
-    [5, 0, 1, 900_000, 20_000, 300_001, 0, 0, 0],
-    [5, 0, 0, 200_000, 0, 150_000, 0, 0, 0],
-];
-const IDS: [&[u8]; 9] = [
-    b"GAS_1", b"GAS_2", b"GAS_3", b"WIND_1", b"SOLAR_1", b"NUKE_1", b"CLR_1", b"NCLR_1", b"NCLR_2",
-];
-
-/// What a host holds, or lends for reading.
-#[derive(Clone, Debug, PartialEq, Eq)]
-struct Held {
-    header: [i64; HEADER],
-    ids: Vec<u8>,
-    numbers: Vec<i64>,
-}
-
-impl Held {
-    fn all_kinds() -> Held {
-        let mut held = Held {
-            header: [8, 16, 4500, 9800, 2_900_000, 2_300_000, 5000, 9],
-            ids: vec![0; 9 * ID_ROW],
-            numbers: NUMBERS.concat(),
-        };
-        for (row, id) in IDS.iter().enumerate() {
-            held.set_id(row, id);
-        }
-        held
-    }
-
-    /// Space with something in every place.
-    fn lent(id_bytes: usize, numbers: usize) -> Held {
-        Held {
-            header: [-7; HEADER],
-            ids: vec![7; id_bytes],
-            numbers: vec![-7; numbers],
-        }
-    }
-
-    /// Space for so many resources.
-    fn rows(resources: usize) -> Held {
-        Held::lent(resources * ID_ROW, resources * NUMBER_ROW)
-    }
-
-    fn set_id(&mut self, row: usize, id: &[u8]) {
-        let row = &mut self.ids[row * ID_ROW..][..ID_ROW];
-        row.fill(0);
-        row[..id.len()].copy_from_slice(id);
-    }
-
-    fn number(&mut self, row: usize, place: usize) -> &mut i64 {
-        &mut self.numbers[row * NUMBER_ROW + place]
-    }
-
-    fn read(&mut self, text: &[u8]) -> Result<(), Refusal> {
-        read_snapshot(text, &mut self.header, &mut self.ids, &mut self.numbers)
-    }
-
-    fn length(&self) -> Result<usize, Refusal> {
-        snapshot_length(&self.header, &self.ids, &self.numbers)
-    }
-
-    fn write(&self, buffer: &mut [u8]) -> Result<usize, Refusal> {
-        write_snapshot(&self.header, &self.ids, &self.numbers, buffer)
-    }
-
-    fn text(&self) -> Vec<u8> {
-        let mut text = vec![0; self.length().unwrap()];
-        assert_eq!(self.write(&mut text), Ok(text.len()));
-        text
-    }
-
-    /// The values are refused, whatever the buffer, which stays.
-    fn refused(&self, number: u64, line: u64) {
-        let refusal = Refusal { number, line };
-        assert_eq!(self.length(), Err(refusal));
-        for size in [0, 1, 2000] {
-            let mut buffer = vec![7; size];
-            assert_eq!(self.write(&mut buffer), Err(refusal));
-            assert_eq!(buffer, vec![7; size]);
-        }
-    }
-}
-
-/// The text is refused, and what was lent for it stays.
-fn refused(text: &[u8], number: u64, line: u64) {
-    let refusal = Refusal { number, line };
-    assert_eq!(Snapshot::from_text(text), Err(refusal));
-    for resources in [0, 9, 20] {
-        let mut held = Held::rows(resources);
-        assert_eq!(held.read(text), Err(refusal));
-        assert_eq!(held, Held::rows(resources));
-    }
-}
-
-/// The text with another value in its line, counted from 1.
-fn with_line(text: &str, line: usize, value: &str) -> String {
-    let mut lines: Vec<String> = text.lines().map(String::from).collect();
-    let (key, _) = lines[line - 1].split_once('=').unwrap();
-    lines[line - 1] = format!("{key}={value}");
-    lines.join("\n") + "\n"
-}
 
 fn generator(id: &str, kind: GeneratorKind) -> Resource {
     Resource {
@@ -141,6 +29,7 @@ fn generator(id: &str, kind: GeneratorKind) -> Resource {
             base: 2_000_000,
             nonspin: 2_000_000,
             cold30: true,
+            marks: GeneratorMarks::default(),
         }),
     }
 }
@@ -153,6 +42,7 @@ fn other_load(id: &str) -> Resource {
             net: 0,
             lpc: 0,
             rrs: 0,
+            marks: OtherLoadMarks::default(),
         }),
     }
 }
@@ -187,6 +77,7 @@ fn a_snapshot_of_all_kinds_has_these_values() {
             base,
             nonspin,
             cold30,
+            marks: GeneratorMarks::default(),
         })
     };
     use GeneratorKind::*;
@@ -205,18 +96,21 @@ fn a_snapshot_of_all_kinds_has_these_values() {
                 lpc: 50_000,
                 nonspin: 30_000,
                 regup: 40_000,
+                marks: ControllableLoadMarks::default(),
             }),
             Unit::OtherLoad(OtherLoad {
                 rrsok: true,
                 net: 900_000,
                 lpc: 20_000,
                 rrs: 300_001,
+                marks: OtherLoadMarks::default(),
             }),
             Unit::OtherLoad(OtherLoad {
                 rrsok: false,
                 net: 200_000,
                 lpc: 0,
                 rrs: 150_000,
+                marks: OtherLoadMarks::default(),
             }),
         ]
     );
@@ -323,8 +217,8 @@ fn rows_are_laid_as_documented() {
     assert_eq!(Held::all_kinds().text(), ALL_KINDS.as_bytes());
 }
 
-/// The eighth number of the header, the bytes after an id, the last 16 of its row, the status of a load, the places
-/// after the numbers of a kind and the last place: none of them changes the text or is refused.
+/// The eighth number of the header, the bytes after an id, the last 16 of its row, the status of a load and the places
+/// between the numbers of a kind and the marks: none of them changes the text or is refused.
 #[test]
 fn writing_does_not_look_at_what_is_not_used() {
     for any in [-1, 1, i64::MIN, i64::MAX] {
@@ -333,12 +227,10 @@ fn writing_does_not_look_at_what_is_not_used() {
         for (row, id) in IDS.iter().enumerate() {
             let after_id = row * ID_ROW + id.len() + 1;
             held.ids[after_id..(row + 1) * ID_ROW].fill(b'z');
-            let unused = if row < 6 { 8..9 } else { 6..9 };
-            for place in unused {
-                *held.number(row, place) = any;
-            }
             if row >= 6 {
-                *held.number(row, 1) = any;
+                for place in [1, 6, 7] {
+                    *held.number(row, place) = any;
+                }
             }
         }
         assert_eq!(held.text(), ALL_KINDS.as_bytes());
@@ -654,7 +546,8 @@ fn ids_that_do_not_fit_a_row() {
 }
 
 /// As many resources as a snapshot can have, each of as many bytes as it can have, in a thread with the stack that is
-/// promised to be enough; and one more, which is refused.
+/// promised to be enough; and one more, which is refused. The header has 9 + 8 + 16 + 13 + 14 + 15 + 16 + 11 = 102 bytes.
+/// A unit in SHUTDOWN has 20 + 10 + 16 + 13 + 12 + 12 + 13 + 16 + 9 = 121, and five more where all its readings are marked.
 #[test]
 fn the_longest_snapshot_is_read_and_written() {
     let mut snapshot = Snapshot {
@@ -671,10 +564,24 @@ fn the_longest_snapshot_is_read_and_written() {
     };
     let thread = std::thread::Builder::new().stack_size(ordc::STACK);
     let checked = thread.spawn(move || {
-        let text = snapshot.to_text().unwrap();
-        assert_eq!(text.len(), 495_718);
-        assert_eq!(snapshot.text_length(), Ok(495_718));
-        assert_eq!(Snapshot::from_text(&text).as_ref(), Ok(&snapshot));
+        for (marked, bytes) in [(false, 121), (true, 126)] {
+            for resource in &mut snapshot.resources {
+                if let Unit::Generator(unit) = &mut resource.unit {
+                    unit.marks = GeneratorMarks {
+                        net: marked,
+                        lsl: marked,
+                        hsl: marked,
+                        base: marked,
+                        nonspin: marked,
+                    };
+                }
+            }
+            let text = snapshot.to_text().unwrap();
+            assert_eq!(text.len(), 102 + bytes * RESOURCES);
+            assert_eq!(snapshot.text_length(), Ok(text.len()));
+            assert_eq!(Snapshot::from_text(&text).as_ref(), Ok(&snapshot));
+        }
+        assert_eq!(snapshot.text_length(), Ok(516_198));
         let last = snapshot.resources[RESOURCES - 1].id.clone();
         snapshot.resources[RESOURCES - 1].id = snapshot.resources[0].id.clone();
         let line = 8 + 9 * 4095 + 1;

@@ -10,6 +10,7 @@ use Rattle.known.specs.Page.{pageValues}
 use Rattle.known.specs.Group.{groupValues}
 use Rattle.known.specs.Held.{heldValues}
 use Rattle.known.specs.Length.{lengthValues}
+use Rattle.known.specs.Marks.{markedValues, markedTexts, markedHeld}
 use Rattle.known.specs.Known.{allKnownValues}
 use Rattle.known.proofs.Probability.{table-values}
 use Rattle.known.proofs.Settling.{settled-values}
@@ -18,6 +19,7 @@ use Rattle.known.proofs.Page.{page-values}
 use Rattle.known.proofs.Group.{group-values}
 use Rattle.known.proofs.Held.{held-values}
 use Rattle.known.proofs.Length.{length-values}
+use Rattle.known.proofs.Marks.{marked-values, marked-texts, marked-held}
 
 map-append : {A B : Type 0} (f : A → B) (xs ys : List A) → map f (xs ++ ys) ≡ map f xs ++ map f ys
 map-append f [] ys = refl
@@ -29,8 +31,11 @@ all-append first second e f = map-append _ first second ∙ ap₂ _++_ e f ∙ s
 
 pub all-known-values : AllHold allKnownValues
 all-known-values =
-    all-append tableValues (settledValues ++ (pricedValues ++ (pageValues ++ (groupValues ++ (heldValues ++ lengthValues))))) table-values
-    (all-append settledValues (pricedValues ++ (pageValues ++ (groupValues ++ (heldValues ++ lengthValues)))) settled-values
-    (all-append pricedValues (pageValues ++ (groupValues ++ (heldValues ++ lengthValues))) priced-values
-    (all-append pageValues (groupValues ++ (heldValues ++ lengthValues)) page-values
-    (all-append groupValues (heldValues ++ lengthValues) group-values (all-append heldValues lengthValues held-values length-values)))))
+    all-append tableValues (settledValues ++ (pricedValues ++ (pageValues ++ (groupValues ++ (heldValues ++ (lengthValues ++ (markedValues ++ (markedTexts ++ markedHeld)))))))) table-values
+    (all-append settledValues (pricedValues ++ (pageValues ++ (groupValues ++ (heldValues ++ (lengthValues ++ (markedValues ++ (markedTexts ++ markedHeld))))))) settled-values
+    (all-append pricedValues (pageValues ++ (groupValues ++ (heldValues ++ (lengthValues ++ (markedValues ++ (markedTexts ++ markedHeld)))))) priced-values
+    (all-append pageValues (groupValues ++ (heldValues ++ (lengthValues ++ (markedValues ++ (markedTexts ++ markedHeld))))) page-values
+    (all-append groupValues (heldValues ++ (lengthValues ++ (markedValues ++ (markedTexts ++ markedHeld)))) group-values
+    (all-append heldValues (lengthValues ++ (markedValues ++ (markedTexts ++ markedHeld))) held-values
+    (all-append lengthValues (markedValues ++ (markedTexts ++ markedHeld)) length-values
+    (all-append markedValues (markedTexts ++ markedHeld) marked-values (all-append markedTexts markedHeld marked-texts marked-held))))))))

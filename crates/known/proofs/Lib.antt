@@ -6,6 +6,7 @@ pub mod Page
 pub mod Group
 pub mod Held
 pub mod Length
+pub mod Marks
 pub mod Known
 pub mod BookingExamples
 pub mod PriceExamples

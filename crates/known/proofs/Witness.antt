@@ -46,6 +46,8 @@ use Rattle.pricing_adder.specs.declared.price.Prices.{Prices}
 use Rattle.pricing_adder.specs.declared.price.Pricing.the-variants as pricing
 use Rattle.pricing_resource.specs.Online.{countedOnline}
 use Rattle.pricing_resource.specs.Offline.{countedOffline}
+use Rattle.pricing_resource.specs.Suspect.{marksTurnBack, unmarkedBefore, suspectPlace, suspectFrom}
+use Rattle.text_number.specs.Marked.{markedIn, marksOf}
 use Rattle.pricing_sums.specs.Part.{partOf, sumsOf}
 use Rattle.pricing.specs.Promises.{ResourceRaised, generator-raised, one-raised, none-raised, SnapshotRaised, snapshot-raised}
 use Rattle.pricing_sums.specs.declared.header.Header.{Header}
@@ -186,6 +188,7 @@ unit id status net lsl hsl base =
         base = pos base;
         nonspin = pos 0;
         cold30 = pos 0;
+        marks = 0;
       });
     }
 
@@ -210,7 +213,7 @@ units base hsl =
     ∷ []
 
 snapshots-read : (snapshotIn snapshot ≡ snapshot-in.read (header 3000000) (units 93000 293000)) × (snapshotIn raisedSnapshot ≡ snapshot-in.read (header 3100000) (units 90000 300000))
-unfolding snapshot raisedSnapshot unit lineIn lineLength begins numberOf allDigits valueOf readFields fieldAt headerFields generatorFields controllableFields loadFields resourceAt resourcesAt dueLines snapshotIn standsIn sameBytes isId allIdBytes wordAmong
+unfolding snapshot raisedSnapshot unit lineIn lineLength begins numberOf allDigits valueOf readFields fieldAt headerFields generatorFields controllableFields loadFields resourceAt resourcesAt dueLines snapshotIn standsIn sameBytes isId allIdBytes wordAmong markedIn marksOf marksTurnBack countedOnline countedOffline suspectPlace suspectFrom unmarkedBefore
 snapshots-read = (refl, refl)
 
 snapshot-up : SnapshotRaised (snapshotIn snapshot) (snapshotIn raisedSnapshot)
@@ -233,10 +236,10 @@ snapshot-up =
     (one-raised refl (unit-up (pos-≤ℤ 293000 300000 .1 (lit≤ tt)) (≤ℤ-refl (pos 0))) none-raised))))
   where
     unit-up :
-        {k : Kind} {s : Status} {net lsl hsl hsl′ base base′ nonspin cold30 : ℤ} → hsl ≤ℤ hsl′ → base′ ≤ℤ base →
+        {k : Kind} {s : Status} {net lsl hsl hsl′ base base′ nonspin cold30 : ℤ} {marks marks′ : ℕ} → hsl ≤ℤ hsl′ → base′ ≤ℤ base →
         ResourceRaised
-        (resource.Generator (record { kind = k; status = s; net = net; lsl = lsl; hsl = hsl; base = base; nonspin = nonspin; cold30 = cold30 }))
-        (resource.Generator (record { kind = k; status = s; net = net; lsl = lsl; hsl = hsl′; base = base′; nonspin = nonspin; cold30 = cold30 }))
+        (resource.Generator (record { kind = k; status = s; net = net; lsl = lsl; hsl = hsl; base = base; nonspin = nonspin; cold30 = cold30; marks = marks }))
+        (resource.Generator (record { kind = k; status = s; net = net; lsl = lsl; hsl = hsl′; base = base′; nonspin = nonspin; cold30 = cold30; marks = marks′ }))
     unit-up h b =
         generator-raised (record { kind = refl; status = refl; cold30 = refl; net = refl; lsl = refl; nonspin = refl; hsl = h; base = b })
 

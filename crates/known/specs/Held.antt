@@ -10,16 +10,16 @@ use Rattle.text_refusal.specs.declared.answer.Answer.the-variants as answer
 use Rattle.pricing_held.specs.Lines.{heldAnswer, heldText}
 
 -- a row of bytes: the id, byte 0, and bytes that are not looked at
-abbrev idOf : String → List ℕ
+abbrev pub idOf : String → List ℕ
 idOf id = bytes id ++ (0 ∷ replicate (31 - length (bytes id)) 88)
 
 -- document 01's header, with a `count` that is not looked at
-abbrev header : List ℤ
+abbrev pub header : List ℤ
 header = pos 7 ∷ pos 14 ∷ negℤ (pos 2500) ∷ pos 10000 ∷ pos 3000000 ∷ pos 2300000 ∷ pos 0 ∷ pos 99 ∷ []
 
--- kind, status, six numbers, and a ninth number that is not looked at
+-- kind, status, six numbers, none of which is marked
 abbrev row : ℤ → ℤ → ℤ → ℤ → ℤ → ℤ → ℤ → ℤ → List ℤ
-row kind status a b c d e f = kind ∷ status ∷ a ∷ b ∷ c ∷ d ∷ e ∷ f ∷ pos 77 ∷ []
+row kind status a b c d e f = kind ∷ status ∷ a ∷ b ∷ c ∷ d ∷ e ∷ f ∷ pos 0 ∷ []
 
 -- a unit that is ON, by its net and its flag
 abbrev unit : ℤ → ℤ → List ℤ
@@ -37,10 +37,10 @@ outcomeOf (answer.Refused found) text = pos (found .number) ∷ pos (found .line
 abbrev claim : List ℕ → List ℤ → List ℤ → List ℤ × List ℤ
 claim ids numbers expected = (outcomeOf (heldAnswer header ids numbers) (heldText header ids numbers), expected)
 
-abbrev written : List ℕ → List ℤ → String → List ℤ × List ℤ
+abbrev pub written : List ℕ → List ℤ → String → List ℤ × List ℤ
 written ids numbers text = claim ids numbers (pos 0 ∷ pos 0 ∷ map pos (bytes text))
 
-abbrev refused : List ℕ → List ℤ → ℤ → ℤ → List ℤ × List ℤ
+abbrev pub refused : List ℕ → List ℤ → ℤ → ℤ → List ℤ × List ℤ
 refused ids numbers number line = claim ids numbers (number ∷ line ∷ [])
 
 unfoldable pub heldValues : List (List ℤ × List ℤ)

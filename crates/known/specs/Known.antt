@@ -8,6 +8,7 @@ use Rattle.known.specs.Page.{pageValues}
 use Rattle.known.specs.Group.{groupValues}
 use Rattle.known.specs.Held.{heldValues}
 use Rattle.known.specs.Length.{lengthValues}
+use Rattle.known.specs.Marks.{markedValues, markedTexts, markedHeld}
 
 abbrev pub allKnownValues : List (List ℤ × List ℤ)
-allKnownValues = tableValues ++ (settledValues ++ (pricedValues ++ (pageValues ++ (groupValues ++ (heldValues ++ lengthValues)))))
+allKnownValues = tableValues ++ (settledValues ++ (pricedValues ++ (pageValues ++ (groupValues ++ (heldValues ++ (lengthValues ++ (markedValues ++ (markedTexts ++ markedHeld))))))))

@@ -7,4 +7,5 @@ pub mod Page
 pub mod Group
 pub mod Held
 pub mod Length
+pub mod Marks
 pub mod Known

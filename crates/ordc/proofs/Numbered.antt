@@ -3,7 +3,7 @@ use Prim.Native.Nat.{ℕ, _≤_}
 use native.Mathlib.Omega.{arith}
 use mathlib.Core.Bool.{Bool, true, false, cond}
 use mathlib.Core.List.{List}
-use mathlib.Core.Path.{_≡_, refl, sym}
+use mathlib.Core.Path.{_≡_, refl}
 use borrow.Author.Tests.{ne-eqb}
 use lib.Dec.{eqb, leb}
 use lib.IntN.{ℤ}
@@ -21,9 +21,10 @@ use Rattle.curve_booking.specs.Booking.{booked}
 use Rattle.curve.proofs.Numbered.{AnswerNumbered, booked-numbered, settled-numbered, AnswerListed, curves-listed, length-numbered, writing-numbered, page-numbered}
 use Rattle.pricing.specs.Pricing.{priced}
 use Rattle.pricing.proofs.Numbered.{SnapshotListed, snapshot-listed, PricingListed, pricing-listed}
-use Rattle.pricing_snapshot.specs.Snapshot.{SnapshotAnswer, read, refused-by, snapshotIn}
-use Rattle.pricing_held.specs.Rows.{heldCount}
-use Rattle.pricing_held.specs.Lines.{heldLines, heldAnswer, heldText}
+use Rattle.pricing_resource.specs.Suspect.{suspectLine}
+use Rattle.pricing_snapshot.specs.Snapshot.{resourcesOf, SnapshotAnswer, read, refused-by, snapshotIn}
+use Rattle.pricing_held.specs.Rows.{heldCount, contentsHeld}
+use Rattle.pricing_held.specs.Lines.{heldLines, suspectAnswer, heldAnswer, heldText}
 use Rattle.pricing_held.proofs.Definitions.{held-answer-is}
 use Rattle.pricing_held_reading.specs.Reading.{readingAnswer}
 use Rattle.pricing_held_reading.proofs.Definitions.{reading-held-is}
@@ -57,11 +58,19 @@ listed-reading : (text : List ℕ) (rows : ℕ) (found : SnapshotAnswer) → Sna
 listed-reading text rows (refused-by found) n = not-none (found .number) (n .least)
 listed-reading text rows (read h entries) n = room-numbered (leb (length entries) rows)
 
+-- the first line that a mark turns back, or none
+suspect-numbered : (b : Bool) (line : ℕ) → Numbered (cond b answer.Accepted (refusal 15 line))
+suspect-numbered true line = tt
+suspect-numbered false line = refl
+
 held-numbered : (header : List ℤ) (ids : List ℕ) (numbers : List ℤ) → Numbered (heldAnswer header ids numbers)
-held-numbered header ids numbers = go (heldAnswer header ids numbers) (sym (held-answer-is header ids numbers))
+held-numbered header ids numbers = rw (held-answer-is header ids numbers) (go (firstRefused 1 (heldLines header ids numbers)) refl)
   where
-    go : (found : Answer) → firstRefused 1 (heldLines header ids numbers) ≡ found → Numbered found
-    go answer.Accepted e = tt
+    line : ℕ
+    line = suspectLine (resourcesOf (contentsHeld header ids numbers .entries))
+
+    go : (found : Answer) → firstRefused 1 (heldLines header ids numbers) ≡ found → Numbered (followedBy found (suspectAnswer line))
+    go answer.Accepted e = suspect-numbered (eqb line 0) line
     go (answer.Refused found) e = first-numbered 1 (heldLines header ids numbers) e
 
 followed-numbered : (found : Answer) (room : Bool) → Numbered found → Numbered (followedBy found (cond room answer.Accepted (refusal 14 0)))

@@ -21,11 +21,13 @@ use Rattle.text_writer.specs.Write.{laidAt}
 use Rattle.text_writer.proofs.Laid.{laid-behind}
 use Rattle.pricing_sums.specs.Header.{headerValues}
 use Rattle.pricing_sums.specs.declared.header.Header.{Header}
-use Rattle.pricing_snapshot.specs.Snapshot.{Entry, SnapshotAnswer, read, refused-by, snapshotIn}
-use Rattle.pricing_snapshot.proofs.Readings.{snapshot-read}
+use Rattle.pricing_resource.specs.Suspect.{suspectLine}
+use Rattle.pricing_snapshot.specs.Snapshot.{Entry, Contents, resourcesOf, SnapshotAnswer, read, refused-by, snapshotIn}
+use Rattle.pricing_snapshot.proofs.Readings.{snapshot-read, snapshot-unmarked}
 use Rattle.pricing_held.specs.Rows.{Row, heldCount, headerHeld, contentsHeld}
 use Rattle.pricing_held.specs.Lines.{rowsLines, headerChecked, heldLines, heldAnswer, heldText}
-use Rattle.pricing_held.proofs.Definitions.{contents-held-are, held-lines-are, held-answer-is, held-text-is}
+use Rattle.pricing_held.proofs.Definitions.{contents-held-are, held-lines-are, held-text-is}
+use Rattle.pricing_held.proofs.Held.{held-accepted, accepted-held}
 use Rattle.pricing_held_reading.specs.Reading.{idRows, numberRows, readingAnswer, readingHeld, headerRead, entriesRead}
 use Rattle.pricing_held_reading.proofs.Definitions.{reading-held-is}
 use Rattle.pricing_held_text.specs.Writing.{writingHeld}
@@ -44,7 +46,8 @@ written-snapshots-are-short = held-text-short
 pub written-snapshots-are-read-back : WrittenSnapshotsAreReadBack
 written-snapshots-are-read-back header ids numbers accepted =
     let short = written-snapshots-are-short header ids numbers accepted in
-    held-reads header ids numbers (accepted-unrefused 1 (heldLines header ids numbers) (sym (held-answer-is header ids numbers) ∙ accepted)) (omega arith)
+    let all = held-accepted header ids numbers accepted in
+    held-reads header ids numbers (accepted-unrefused 1 (heldLines header ids numbers) (all .lines-accepted)) (all .none-suspect) (omega arith)
 
 -- the count of a header that was read is the number of its resources
 count-is : (text : List ℕ) {h : Header} {entries : List Entry} → snapshotIn text ≡ read h entries → h .count ≡ pos (length entries)
@@ -67,15 +70,19 @@ module _ (text : List ℕ) (h : Header) (entries : List Entry) (e : snapshotIn t
       held-lines-are (headerValues h) (idRows entries) (numberRows entries) ∙
       ap₂ (λ (head : Header) (rows : List Row). headerChecked head ++ rowsLines [] rows) header-back (rows-held entries (written .valid))
 
-pub read-snapshots-are-written-back : ReadSnapshotsAreWrittenBack
-read-snapshots-are-written-back text h entries e = (
-  held-answer-is (headerValues h) (idRows entries) (numberRows entries) ∙ ap (firstRefused 1) (lines-back text h entries e) ∙ unrefused-accepted 1 (linesOf h entries) (written text h entries e .unrefused),
-  held-text-is (headerValues h) (idRows entries) (numberRows entries) ∙ ap textOf (lines-back text h entries e) ∙ sym (written text h entries e .bytes),
-)
-
 pub rows-hold-what-was-read : RowsHoldWhatWasRead
 rows-hold-what-was-read text h entries e =
-    contents-held-are (headerValues h) (idRows entries) (numberRows entries) ∙ rw (header-back text h entries e, rows-held entries (written text h entries e .valid), entries-back entries)
+    contents-held-are (headerValues h) (idRows entries) (numberRows entries) ∙ rw (header-back text h entries e, rows-held entries (written text h entries e .valid), entries-back entries (written text h entries e .valid))
+
+pub read-snapshots-are-written-back : ReadSnapshotsAreWrittenBack
+read-snapshots-are-written-back text h entries e = (
+  accepted-held (headerValues h) (idRows entries) (numberRows entries)
+      (record {
+        lines-accepted = ap (firstRefused 1) (lines-back text h entries e) ∙ unrefused-accepted 1 (linesOf h entries) (written text h entries e .unrefused);
+        none-suspect = ap (λ (found : Contents). suspectLine (resourcesOf (found .entries))) (rows-hold-what-was-read text h entries e) ∙ snapshot-unmarked text e;
+      }),
+  held-text-is (headerValues h) (idRows entries) (numberRows entries) ∙ ap textOf (lines-back text h entries e) ∙ sym (written text h entries e .bytes),
+)
 
 pub read-rows-stand-in-front : ReadRowsStandInFront
 read-rows-stand-in-front text h entries ids numbers e = (

@@ -10,3 +10,4 @@ pub mod RowsTrip
 pub mod SnapshotTrip
 pub mod HeldRows
 pub mod Held
+pub mod Marks

@@ -1,4 +1,4 @@
--- Every refusal of a snapshot has one of the numbers 1 to 9, at a line of its text or the one after its last.
+-- Every refusal of a snapshot has one of the numbers 1 to 9 or 15, at a line of its text or the one after its last.
 use Prim.Native.Nat.{ℕ, _+_, _≤_}
 use native.Mathlib.Omega.{arith}
 use mathlib.Core.List.{List}
@@ -18,7 +18,8 @@ use Rattle.pricing_resource_text.specs.Resource.{resourceAt}
 use Rattle.pricing_resource_text.proofs.Numbered.{resource-numbered}
 use Rattle.pricing_snapshot.specs.Snapshot.{headerFields, SnapshotAnswer, read, refused-by, snapshotIn}
 use Rattle.pricing_snapshot.specs.Promises.{FaultyResource, faulty-id, repeated-id, faulty-lines, later-resource, FaultyLine, in-header, in-resources}
-use Rattle.pricing_snapshot.proofs.Cases.{SnapshotCase, too-long, line-refused, bytes-after, whole, snapshot-case, first-faulty-line-is-refused}
+use Rattle.pricing_snapshot.proofs.Cases.{SnapshotCase, too-long, line-refused, bytes-after, suspect-number, whole, snapshot-case, first-faulty-line-is-refused}
+use Rattle.pricing_snapshot.proofs.SuspectLine.{suspect-line}
 use Rattle.pricing_snapshot.proofs.Snapshots.{headerSchema}
 use Rattle.pricing_adder.specs.declared.price.Pricing.{Pricing}
 use Rattle.pricing_adder.specs.declared.price.Pricing.the-variants as pricing
@@ -49,7 +50,8 @@ snapshot-listed text = go (snapshotIn text) (snapshot-case text)
         let n = faulty-line-numbered (first-faulty-line-is-refused text found due) in
         fault-listed text found (n .0) (let few = n .1 in omega arith)
     go a (bytes-after {next = next} short due more) = fault-listed text (fault 9 next) (omega arith) (omega arith)
-    go a (whole short due over) = tt
+    go a (suspect-number short due over marked) = record { least = omega arith; most = omega arith; line = omega (arith, suspect-line text due) }
+    go a (whole short due over fine) = tt
 
 abbrev pub PricingListed : List ℕ → Pricing → Type 0
 PricingListed text (pricing.Priced prices) = Unit

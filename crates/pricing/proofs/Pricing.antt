@@ -18,10 +18,10 @@ use Rattle.pricing_snapshot.specs.Snapshot.{Entry, resourcesOf, SnapshotAnswer,
 use Rattle.pricing_snapshot.specs.declared.Snapshot.{Snapshot}
 use Rattle.pricing_snapshot.specs.declared.Snapshot.the-variants as snapshot
 use Rattle.pricing_sums.proofs.Headers.{header-fault}
-use Rattle.pricing_snapshot.proofs.Cases.{SnapshotCase, too-long, line-refused, bytes-after, whole, snapshot-case, case-long, case-refused, case-after, case-whole, first-faulty-line-is-refused}
+use Rattle.pricing_snapshot.proofs.Cases.{SnapshotCase, too-long, line-refused, bytes-after, suspect-number, whole, snapshot-case, case-long, case-refused, case-after, case-suspect, case-whole, first-faulty-line-is-refused}
 use Rattle.pricing_snapshot.proofs.Readings.{snapshot-read, few-resources}
 use Rattle.pricing.specs.Pricing.{pricedSnapshot, priced}
-use Rattle.pricing.specs.Promises.{PricingOutcome, outcome, PricingCase, impossible-set, text-too-long, faulty-line, bytes-after-lines, snapshot-priced, PricingIsRefusedFirst, PricesEqualTheFormulas, PricesDependOnHeaderAndSums}
+use Rattle.pricing.specs.Promises.{PricingOutcome, outcome, PricingCase, impossible-set, text-too-long, faulty-line, bytes-after-lines, number-suspect, snapshot-priced, PricingIsRefusedFirst, PricesEqualTheFormulas, PricesDependOnHeaderAndSums}
 
 -- ---- how pricing ends, case by case
 
@@ -84,7 +84,8 @@ module _ (curves : CurveSet) (text : List ℕ) where
       go true e a (too-long long) = text-too-long e long
       go true e a (line-refused {found} short due) = faulty-line found e short due (first-faulty-line-is-refused text found due)
       go true e a (bytes-after {found} {next} short due more) = bytes-after-lines found next e short due more
-      go true e a (whole {found} {next} short due over) = snapshot-priced found next e short due over
+      go true e a (suspect-number {found} {next} short due over marked) = number-suspect found next e short due over marked
+      go true e a (whole {found} {next} short due over fine) = snapshot-priced found next e short due over fine
 
   pricing-only : (other : PricingOutcome) → PricingCase curves text other → other ≡ outcome (priced curves text)
   unfolding priced
@@ -92,7 +93,8 @@ module _ (curves : CurveSet) (text : List ℕ) where
   pricing-only other (text-too-long possible long) = rw (possible, case-long text long)
   pricing-only other (faulty-line found possible short due faulty) = rw (possible, case-refused text short due)
   pricing-only other (bytes-after-lines found next possible short due more) = rw (possible, case-after text short due more)
-  pricing-only other (snapshot-priced found next possible short due over) = rw (possible, case-whole text short due over)
+  pricing-only other (number-suspect found next possible short due over marked) = rw (possible, case-suspect text short due over marked)
+  pricing-only other (snapshot-priced found next possible short due over fine) = rw (possible, case-whole text short due over fine)
 
 pub pricing-is-refused-first : PricingIsRefusedFirst
 pricing-is-refused-first curves text = record { applies = pricing-applies curves text; only = pricing-only curves text }

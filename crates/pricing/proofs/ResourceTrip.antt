@@ -3,34 +3,39 @@ use Prim.Native.Nat.{ℕ, zero, suc, _+_, _≤_, _<_}
 use mathlib.Core.Bool.{Bool, true, false}
 use borrow.Author.Tests.{ltb-true, ltb-false}
 use lib.Dec.{ltb}
-use lib.Seq.{length-take-le}
+use lib.Seq.{length-take-le, take-all, take-at}
 use native.Mathlib.Omega.{arith}
-use mathlib.Core.List.{List, [], _∷_}
+use mathlib.Core.List.{List, [], _∷_, _++_}
 use mathlib.Core.Path.{_≡_, refl, sym, ap, subst, subst⁻¹, _∙_}
 use lib.IntN.{ℤ, pos}
-use lib.ListN.{length, take}
+use lib.ListN.{length, take, length-map}
 use Rattle.text_refusal.specs.Bytes.{bytes}
 use Rattle.text_line.specs.Field.{Field, got, fieldAt}
 use Rattle.text_line.proofs.LineBytes.{one-line}
 use Rattle.text_schema.specs.Schema.{readFields}
 use Rattle.text_schema.specs.Checked.{CheckedLine, checkedLine, checkedLines, textOf}
 use Rattle.text_schema.proofs.Readings.{reading-length}
-use Rattle.text_schema.proofs.Checked.{Unrefused, NumberLines, text-first, lines-long, checked-taken}
-use Rattle.text.specs.Promises.{Sound, FitsOrRefused}
+use Rattle.text_number.specs.Marked.{Marked, numbersOf, marksOf, markedBy}
+use Rattle.text_number.proofs.Marks.{marks-few, by-length, by-take, marked-again}
+use Rattle.text_schema.proofs.Checked.{Unrefused, text-first, checked-taken}
+use Rattle.text_schema.proofs.Marks.{LinesWithMarks}
+use Rattle.text.specs.Promises.{Sound, AllSound, FitsOrRefused}
 use Rattle.text.proofs.RoundTrip.{Cut}
-use Rattle.text.proofs.Checked.{cut-both, cut-apart, line-cuts, line-reads, LinesStand, lines-cut, lines-read}
-use Rattle.text.proofs.Values.{words-are-sound, listed-words-fit, number-lines-sound, number-lines-fit}
+use Rattle.text.proofs.Checked.{AllFitOrRefused, cut-both, cut-apart, line-cuts, line-reads, LinesStand, lines-cut, lines-read}
+use Rattle.text.proofs.Values.{words-are-sound, listed-words-fit, marked-lines-sound, marked-lines-fit}
 use Rattle.pricing_resource.specs.declared.Kind.{Kind}
 use Rattle.pricing_resource.specs.declared.Kind.the-variants as kind
 use Rattle.pricing_resource.specs.declared.Status.{Status}
 use Rattle.pricing_resource.specs.declared.Status.the-variants as status
 use Rattle.pricing_resource.specs.declared.Resource.{Resource}
 use Rattle.pricing_resource.specs.declared.Resource.the-variants as resource
-use Rattle.pricing_resource_text.specs.Resource.{kindWords, kindField, statusWords, statusField, statusOf, generatorFields, controllableFields, loadFields, generatorOf, controllableOf, loadOf, linesAs, generatorAt, ofKind, resourceAt}
+use Rattle.pricing_resource_text.specs.Resource.{kindWords, kindField, statusWords, statusField, statusOf, generatorFields, controllableFields, loadFields, generatorOf, controllableOf, loadOf, withMarks, linesAs, generatorAt, ofKind, resourceAt}
 use Rattle.pricing_resource_text.proofs.Readings.{followed, lines-given, resource-is, resource-followed}
-use Rattle.pricing_resource_text.proofs.Places.{kind-unknown, status-unknown, generator-lines, controllable-lines, load-lines}
-use Rattle.pricing_held.specs.Rows.{Row, resourceOfKind}
-use Rattle.pricing_held.specs.Lines.{linesOfKind}
+use Rattle.pricing_resource_text.proofs.Places.{kind-unknown, status-unknown}
+use Rattle.pricing_resource_text.proofs.Lines.{generator-with-marks, controllable-with-marks, load-with-marks, generator-long, controllable-long, load-long}
+use Rattle.pricing_resource.specs.Suspect.{marks}
+use Rattle.pricing_held.specs.Rows.{Row, markedNumbers, resourceOfKind}
+use Rattle.pricing_held.specs.Lines.{generatorLines, linesOfKind}
 
 -- ---- the kinds of value
 
@@ -67,60 +72,74 @@ module _ (text : List ℕ) (at next : ℕ) (line : CheckedLine) (lines : List Ch
   standing-more mid first more =
       (rw (text-first line lines) (cut-both text (line .bytes) (textOf lines) at mid next (first .0) (more .0)), (first .1, more .1))
 
--- ---- numbers of a row
+-- ---- lines of any kind of value
 
--- six numbers
-pub data Six : List ℤ → Type 0 where
-  six : {a b c d e f : ℤ} → Six (a ∷ b ∷ c ∷ d ∷ e ∷ f ∷ [])
-
-pub six-numbers : (values : List ℤ) → length values ≡ 6 → Six values
-six-numbers [] h = absurd (omega arith)
-six-numbers (a ∷ []) h = absurd (omega arith)
-six-numbers (a ∷ b ∷ []) h = absurd (omega arith)
-six-numbers (a ∷ b ∷ c ∷ []) h = absurd (omega arith)
-six-numbers (a ∷ b ∷ c ∷ d ∷ []) h = absurd (omega arith)
-six-numbers (a ∷ b ∷ c ∷ d ∷ e ∷ []) h = absurd (omega arith)
-six-numbers (a ∷ b ∷ c ∷ d ∷ e ∷ f ∷ []) h = six
-six-numbers (a ∷ b ∷ c ∷ d ∷ e ∷ f ∷ g ∷ rest) h = absurd (omega arith)
-
--- lines of numbers are read as the values that they are written from, the first ones where there are more
-pub numbers-read :
-    {A : Type 0} (make : List ℤ → A) {fields : List (Field ℤ)} {lows highs : List ℤ} → NumberLines fields lows highs → (text : List ℕ) (values : List ℤ) (at next : ℕ) →
-    length lows ≤ length values → Standing text at next (checkedLines fields values) → linesAs make fields text at ≡ got (make (take (length lows) values)) next
-numbers-read make {fields} {lows} number-lines text values at next long stand =
-    let few : length fields ≡ length lows = lines-long number-lines in
-    let these : List ℤ = take (length fields) values in
-    let counted : length these ≡ length fields = length-take-le (length fields) values (omega (arith, few)) in
+-- they are read as the values that they are written from, the first ones where there are more
+pub lines-given-back :
+    {A B : Type 0} (make : List A → B) (fields : List (Field A)) → AllSound fields → AllFitOrRefused fields → (text : List ℕ) (values : List A) (at next : ℕ) →
+    length fields ≤ length values → Standing text at next (checkedLines fields values) → linesAs make fields text at ≡ got (make (take (length fields) values)) next
+lines-given-back {A} make fields sound fit text values at next long stand =
+    let these : List A = take (length fields) values in
+    let counted : length these ≡ length fields = length-take-le (length fields) values long in
     let stands : LinesStand text at next fields these = rw (checked-taken fields values) stand in
-    rw (← few, lines-read text fields these at next (number-lines-sound number-lines) (number-lines-fit number-lines) counted stands)
+    rw (lines-read text fields these at next sound fit counted stands)
+
+-- lines that were read: the values, and that they stand so
+pub record LinesTaken {A B : Type 0} (make : List A → B) (fields : List (Field A)) (text : List ℕ) (at next : ℕ) (one : B) : Type 0 where
+  pub values : List A
+  pub long : length values ≡ length fields
+  pub made : make values ≡ one
+  pub stand : Standing text at next (checkedLines fields values)
+
+pub lines-taken :
+    {A B : Type 0} (make : List A → B) (fields : List (Field A)) → AllSound fields → (text : List ℕ) (at next : ℕ) {one : B} →
+    linesAs make fields text at ≡ got one next → LinesTaken make fields text at next one
+lines-taken make fields sound text at next e =
+    let given = lines-given make (readFields fields text at .values) (readFields fields text at .end) e in
+    record {
+      values = readFields fields text at .values;
+      long = reading-length fields text at next (given .ended);
+      made = given .made;
+      stand = lines-cut text fields at next sound (given .ended);
+    }
 
 -- ---- written lines are read
 
+-- a row has six numbers
+abbrev pub Six : Row → Type 0
+Six row = length (row .numbers) ≡ 6
+
+six-marked : (row : Row) → Six row → length (markedNumbers row) ≡ 6
+six-marked row six = by-length (row .marks) (row .numbers) ∙ six
+
 module _ (text : List ℕ) where
+  numbers-read :
+      (make : ℕ → List ℤ → Resource) {fields : List (Field Marked)} → LinesWithMarks fields → (row : Row) (at next : ℕ) → length fields ≤ 6 → Six row →
+      Standing text at next (checkedLines fields (markedNumbers row)) → linesAs (withMarks make) fields text at ≡ got (withMarks make (take (length fields) (markedNumbers row))) next
+  numbers-read make {fields} lines row at next few six stand =
+      lines-given-back (withMarks make) fields (marked-lines-sound lines) (marked-lines-fit lines) text (markedNumbers row) at next (omega (arith, six-marked row six)) stand
+
   generator-reads :
-      (k : Kind) (s : ℕ) {values : List ℤ} (at next : ℕ) → Six values → Standing text at next (checkedLine statusField s ∷ checkedLines generatorFields values) →
-      generatorAt k text at ≡ got (generatorOf k (statusOf s) values) next
-  generator-reads k s {values} at next (six {a} {b} {c} {d} {e} {f}) stand =
-      let parts = standing-first text at next (checkedLine statusField s) (checkedLines generatorFields values) stand in
+      (k : Kind) (row : Row) (at next : ℕ) → Six row → Standing text at next (generatorLines row) → generatorAt k text at ≡ got (withMarks (generatorOf k (statusOf (row .status))) (markedNumbers row)) next
+  generator-reads k row at next six stand =
+      let s : ℕ = row .status in
+      let parts = standing-first text at next (checkedLine statusField s) (checkedLines generatorFields (markedNumbers row)) stand in
       let mid : ℕ = at + length (checkedLine statusField s .bytes) in
       let status : fieldAt statusField text at ≡ got s mid = line-reads statusField statuses-sound text at statuses-fit s mid (parts .0 .0) (parts .0 .1) in
-      rw status (numbers-read (generatorOf k (statusOf s)) generator-lines text values mid next (omega arith) (parts .1))
+      let all : take (length generatorFields) (markedNumbers row) ≡ markedNumbers row = take-all (length generatorFields) (markedNumbers row) (omega (arith, generator-long, six-marked row six)) in
+      rw status (rw all at (numbers-read (generatorOf k (statusOf s)) generator-with-marks row mid next (omega (arith, generator-long)) six (parts .1)))
 
   of-kind-reads :
-      (k : ℕ) (row : Row) (at next : ℕ) → k < 6 → Six (row .numbers) → Standing text at next (linesOfKind k row) → ofKind text k at ≡ got (resourceOfKind k row) next
-  of-kind-reads zero row at next h all stand = generator-reads kind.Gen (row .status) at next all stand
-  of-kind-reads (suc zero) row at next h all stand = generator-reads kind.Wind (row .status) at next all stand
-  of-kind-reads (suc (suc zero)) row at next h all stand = generator-reads kind.Irr (row .status) at next all stand
-  of-kind-reads (suc (suc (suc zero))) row at next h all stand = generator-reads kind.Nuke (row .status) at next all stand
-  of-kind-reads (suc (suc (suc (suc zero)))) row at next h all stand = go (row .numbers) all stand
-    where
-      go : (values : List ℤ) → Six values → Standing text at next (checkedLines controllableFields values) → linesAs controllableOf controllableFields text at ≡ got (controllableOf values) next
-      go values (six {a} {b} {c} {d} {e} {f}) stand = numbers-read controllableOf controllable-lines text values at next (omega arith) stand
-  of-kind-reads (suc (suc (suc (suc (suc zero))))) row at next h all stand = go (row .numbers) all stand
-    where
-      go : (values : List ℤ) → Six values → Standing text at next (checkedLines loadFields values) → linesAs loadOf loadFields text at ≡ got (loadOf values) next
-      go values (six {a} {b} {c} {d} {e} {f}) stand = numbers-read loadOf load-lines text values at next (omega arith) stand
-  of-kind-reads (suc (suc (suc (suc (suc (suc k)))))) row at next h all stand = absurd (omega arith)
+      (k : ℕ) (row : Row) (at next : ℕ) → k < 6 → Six row → Standing text at next (linesOfKind k row) → ofKind text k at ≡ got (resourceOfKind k row) next
+  of-kind-reads zero row at next h six stand = generator-reads kind.Gen row at next six stand
+  of-kind-reads (suc zero) row at next h six stand = generator-reads kind.Wind row at next six stand
+  of-kind-reads (suc (suc zero)) row at next h six stand = generator-reads kind.Irr row at next six stand
+  of-kind-reads (suc (suc (suc zero))) row at next h six stand = generator-reads kind.Nuke row at next six stand
+  of-kind-reads (suc (suc (suc (suc zero)))) row at next h six stand =
+      rw controllable-long at (numbers-read controllableOf controllable-with-marks row at next (omega (arith, controllable-long)) six stand)
+  of-kind-reads (suc (suc (suc (suc (suc zero))))) row at next h six stand =
+      rw load-long at (numbers-read loadOf load-with-marks row at next (omega (arith, load-long)) six stand)
+  of-kind-reads (suc (suc (suc (suc (suc (suc k)))))) row at next h six stand = absurd (omega arith)
 
   -- a kind that is not refused is one of the list
   kind-listed : (k : ℕ) → checkedLine kindField k .number ≡ 0 → k < 6
@@ -131,7 +150,7 @@ module _ (text : List ℕ) where
       go false p = absurd (omega (arith, sym e ∙ kind-unknown k (ltb-false k 6 p)))
 
   pub resource-reads :
-      (row : Row) (at next : ℕ) → Six (row .numbers) → Standing text at next (checkedLine kindField (row .kind) ∷ linesOfKind (row .kind) row) →
+      (row : Row) (at next : ℕ) → Six row → Standing text at next (checkedLine kindField (row .kind) ∷ linesOfKind (row .kind) row) →
       resourceAt text at ≡ got (resourceOfKind (row .kind) row) next
   resource-reads row at next all stand =
       let k : ℕ = row .kind in
@@ -174,7 +193,7 @@ numbersOfResource (resource.Controllable c) = c .base ∷ c .lpc ∷ c .nonspin 
 numbersOfResource (resource.Load l) = l .rrsok ∷ l .net ∷ l .lpc ∷ l .rrs ∷ pos 0 ∷ pos 0 ∷ []
 
 abbrev pub rowOfResource : List ℕ → Resource → Row
-rowOfResource id one = record { id = id; kind = kindOfResource one; status = statusOfResource one; numbers = numbersOfResource one }
+rowOfResource id one = record { id = id; kind = kindOfResource one; status = statusOfResource one; numbers = numbersOfResource one; marks = marks one }
 
 status-back : (s : ℕ) → s < 7 → statusIndex (statusOf s) ≡ s
 status-back zero h = refl
@@ -193,11 +212,24 @@ status-listed s e = go (ltb s 7) refl
     go true p = ltb-true s 7 p
     go false p = absurd (omega (arith, sym e ∙ status-unknown s (ltb-false s 7 p)))
 
--- four numbers
-data Four : List ℤ → Type 0 where
-  four : {a b c d : ℤ} → Four (a ∷ b ∷ c ∷ d ∷ [])
+-- six numbers with their marks, and four
+data SixMarked : List Marked → Type 0 where
+  six : {a b c d e f : Marked} → SixMarked (a ∷ b ∷ c ∷ d ∷ e ∷ f ∷ [])
 
-four-numbers : (values : List ℤ) → length values ≡ 4 → Four values
+six-numbers : (values : List Marked) → length values ≡ 6 → SixMarked values
+six-numbers [] h = absurd (omega arith)
+six-numbers (a ∷ []) h = absurd (omega arith)
+six-numbers (a ∷ b ∷ []) h = absurd (omega arith)
+six-numbers (a ∷ b ∷ c ∷ []) h = absurd (omega arith)
+six-numbers (a ∷ b ∷ c ∷ d ∷ []) h = absurd (omega arith)
+six-numbers (a ∷ b ∷ c ∷ d ∷ e ∷ []) h = absurd (omega arith)
+six-numbers (a ∷ b ∷ c ∷ d ∷ e ∷ f ∷ []) h = six
+six-numbers (a ∷ b ∷ c ∷ d ∷ e ∷ f ∷ g ∷ rest) h = absurd (omega arith)
+
+data FourMarked : List Marked → Type 0 where
+  four : {a b c d : Marked} → FourMarked (a ∷ b ∷ c ∷ d ∷ [])
+
+four-numbers : (values : List Marked) → length values ≡ 4 → FourMarked values
 four-numbers [] h = absurd (omega arith)
 four-numbers (a ∷ []) h = absurd (omega arith)
 four-numbers (a ∷ b ∷ []) h = absurd (omega arith)
@@ -205,52 +237,44 @@ four-numbers (a ∷ b ∷ c ∷ []) h = absurd (omega arith)
 four-numbers (a ∷ b ∷ c ∷ d ∷ []) h = four
 four-numbers (a ∷ b ∷ c ∷ d ∷ e ∷ rest) h = absurd (omega arith)
 
--- lines of numbers that were read: the values, and that they stand so
-pub record NumbersGiven {A : Type 0} (make : List ℤ → A) (fields : List (Field ℤ)) (lows : List ℤ) (text : List ℕ) (at next : ℕ) (one : A) : Type 0 where
-  pub values : List ℤ
-  pub long : length values ≡ length lows
-  pub made : make values ≡ one
-  pub stand : Standing text at next (checkedLines fields values)
-
-pub numbers-given :
-    {A : Type 0} (make : List ℤ → A) {fields : List (Field ℤ)} {lows highs : List ℤ} → NumberLines fields lows highs → (text : List ℕ) (at next : ℕ) {one : A} →
-    linesAs make fields text at ≡ got one next → NumbersGiven make fields lows text at next one
-numbers-given make {fields} number-lines text at next e =
-    let given = lines-given make (readFields fields text at .values) (readFields fields text at .end) e in
-    record {
-      values = readFields fields text at .values;
-      long = reading-length fields text at next (given .ended) ∙ lines-long number-lines;
-      made = given .made;
-      stand = lines-cut text fields at next (number-lines-sound number-lines) (given .ended);
-    }
+-- the marks are those of the resource's numbers: six, or four
+abbrev pub MarksFit : Resource → Type 0
+MarksFit (resource.Generator g) = g .marks < 64
+MarksFit (resource.Controllable c) = c .marks < 16
+MarksFit (resource.Load l) = l .marks < 16
 
 module _ (text : List ℕ) (id : List ℕ) where
-  -- what stands after the kind's line, and the kind
+  -- what stands after the kind's line, the kind, and the marks
   abbrev Written : ℕ → ℕ → ℕ → Resource → Type 0
-  Written k at next one = (rowOfResource id one .kind ≡ k) × Standing text at next (linesOfKind k (rowOfResource id one))
+  Written k at next one = (rowOfResource id one .kind ≡ k) × (Standing text at next (linesOfKind k (rowOfResource id one)) × MarksFit one)
 
-  generator-written : (k : Kind) (at next : ℕ) {one : Resource} → generatorAt k text at ≡ got one next → (rowOfResource id one .kind ≡ kindIndex k) × Standing text at next (linesOfKind 0 (rowOfResource id one))
+  generator-written :
+      (k : Kind) (at next : ℕ) {one : Resource} → generatorAt k text at ≡ got one next →
+      (rowOfResource id one .kind ≡ kindIndex k) × (Standing text at next (linesOfKind 0 (rowOfResource id one)) × MarksFit one)
   generator-written k at next {one} e =
-      let f = followed (fieldAt statusField text at) (λ s next. linesAs (generatorOf k (statusOf s)) generatorFields text next) e in
+      let f = followed (fieldAt statusField text at) (λ s next. linesAs (withMarks (generatorOf k (statusOf s))) generatorFields text next) e in
       let line = line-cuts statusField statuses-sound text at (f .one) (f .after) (f .given) in
-      let given = numbers-given (generatorOf k (statusOf (f .one))) generator-lines text (f .after) next (f .then) in
-      subst (λ (r : Resource). (rowOfResource id r .kind ≡ kindIndex k) × Standing text at next (linesOfKind 0 (rowOfResource id r))) (given .made)
-      (go (given .values) (six-numbers (given .values) (given .long)) (status-back (f .one) (status-listed (f .one) (line .1))) (f .after) line (given .stand))
+      let given = lines-taken (withMarks (generatorOf k (statusOf (f .one)))) generatorFields (marked-lines-sound generator-with-marks) text (f .after) next (f .then) in
+      subst (λ (r : Resource). (rowOfResource id r .kind ≡ kindIndex k) × (Standing text at next (linesOfKind 0 (rowOfResource id r)) × MarksFit r)) (given .made)
+      (go (given .values) (six-numbers (given .values) (given .long ∙ generator-long)) (status-back (f .one) (status-listed (f .one) (line .1))) (f .after) line (given .stand))
     where
-      go : {s : ℕ} (values : List ℤ) → Six values → statusIndex (statusOf s) ≡ s → (mid : ℕ) → Cut text at mid (checkedLine statusField s .bytes) × (checkedLine statusField s .number ≡ 0) →
+      go : {s : ℕ} (values : List Marked) → SixMarked values → statusIndex (statusOf s) ≡ s → (mid : ℕ) → Cut text at mid (checkedLine statusField s .bytes) × (checkedLine statusField s .number ≡ 0) →
           Standing text mid next (checkedLines generatorFields values) →
-          (rowOfResource id (generatorOf k (statusOf s) values) .kind ≡ kindIndex k) × Standing text at next (linesOfKind 0 (rowOfResource id (generatorOf k (statusOf s) values)))
+          (rowOfResource id (withMarks (generatorOf k (statusOf s)) values) .kind ≡ kindIndex k)
+          × (Standing text at next (linesOfKind 0 (rowOfResource id (withMarks (generatorOf k (statusOf s)) values))) × (marksOf values < 64))
       go {s} values (six {a} {b} {c} {d} {e} {f}) back mid line stand =
-          (refl, rw back (standing-more text at next (checkedLine statusField s) (checkedLines generatorFields values) mid line stand))
+          (refl, (rw (back, marked-again values) (standing-more text at next (checkedLine statusField s) (checkedLines generatorFields values) mid line stand), marks-few values))
 
   -- the four numbers of a load in the row's six places
   load-written :
-      {fields : List (Field ℤ)} {lows highs : List ℤ} → NumberLines fields lows highs → length lows ≡ 4 → (a b c d : ℤ) (at next : ℕ) →
-      Standing text at next (checkedLines fields (a ∷ b ∷ c ∷ d ∷ [])) → Standing text at next (checkedLines fields (a ∷ b ∷ c ∷ d ∷ pos 0 ∷ pos 0 ∷ []))
-  load-written {fields} number-lines few a b c d at next stand =
-      let long : length fields ≡ 4 = lines-long number-lines ∙ few in
-      let same : checkedLines fields (a ∷ b ∷ c ∷ d ∷ []) ≡ checkedLines fields (a ∷ b ∷ c ∷ d ∷ pos 0 ∷ pos 0 ∷ []) =
-      ap (λ (n : ℕ). checkedLines fields (take n (a ∷ b ∷ c ∷ d ∷ pos 0 ∷ pos 0 ∷ []))) (sym long) ∙ checked-taken fields (a ∷ b ∷ c ∷ d ∷ pos 0 ∷ pos 0 ∷ []) in
+      (fields : List (Field Marked)) → length fields ≡ 4 → (values : List Marked) → length values ≡ 4 → (at next : ℕ) →
+      Standing text at next (checkedLines fields values) → Standing text at next (checkedLines fields (markedBy (marksOf values) (numbersOf values ++ (pos 0 ∷ pos 0 ∷ []))))
+  load-written fields long values few at next stand =
+      let counted : length (numbersOf values) ≡ 4 = length-map values (λ (m : Marked). m .number) ∙ few in
+      let front : take (length fields) (numbersOf values ++ (pos 0 ∷ pos 0 ∷ [])) ≡ numbersOf values = take-at (numbersOf values) (pos 0 ∷ pos 0 ∷ []) (length fields) (counted ∙ sym long) in
+      let same : checkedLines fields values ≡ checkedLines fields (markedBy (marksOf values) (numbersOf values ++ (pos 0 ∷ pos 0 ∷ []))) =
+      ap (checkedLines fields) (sym (by-take (length fields) (marksOf values) (numbersOf values ++ (pos 0 ∷ pos 0 ∷ [])) ∙ ap (markedBy (marksOf values)) front ∙ marked-again values))
+      ∙ checked-taken fields (markedBy (marksOf values) (numbersOf values ++ (pos 0 ∷ pos 0 ∷ []))) in
       rw same at stand
 
   of-kind-written : (k at next : ℕ) {one : Resource} → k < 6 → ofKind text k at ≡ got one next → Written k at next one
@@ -259,25 +283,27 @@ module _ (text : List ℕ) (id : List ℕ) where
   of-kind-written (suc (suc zero)) at next h e = generator-written kind.Irr at next e
   of-kind-written (suc (suc (suc zero))) at next h e = generator-written kind.Nuke at next e
   of-kind-written (suc (suc (suc (suc zero)))) at next h e =
-      let given = numbers-given controllableOf controllable-lines text at next e in
-      subst (λ (r : Resource). Written 4 at next r) (given .made) (go (given .values) (four-numbers (given .values) (given .long)) (given .stand))
+      let given = lines-taken (withMarks controllableOf) controllableFields (marked-lines-sound controllable-with-marks) text at next e in
+      subst (λ (r : Resource). Written 4 at next r) (given .made) (go (given .values) (four-numbers (given .values) (given .long ∙ controllable-long)) (given .stand))
     where
-      go : (values : List ℤ) → Four values → Standing text at next (checkedLines controllableFields values) → Written 4 at next (controllableOf values)
-      go values (four {a} {b} {c} {d}) stand = (refl, load-written controllable-lines refl a b c d at next stand)
+      go : (values : List Marked) → FourMarked values → Standing text at next (checkedLines controllableFields values) → Written 4 at next (withMarks controllableOf values)
+      go values (four {a} {b} {c} {d}) stand = (refl, (load-written controllableFields controllable-long values refl at next stand, marks-few values))
   of-kind-written (suc (suc (suc (suc (suc zero))))) at next h e =
-      let given = numbers-given loadOf load-lines text at next e in
-      subst (λ (r : Resource). Written 5 at next r) (given .made) (go (given .values) (four-numbers (given .values) (given .long)) (given .stand))
+      let given = lines-taken (withMarks loadOf) loadFields (marked-lines-sound load-with-marks) text at next e in
+      subst (λ (r : Resource). Written 5 at next r) (given .made) (go (given .values) (four-numbers (given .values) (given .long ∙ load-long)) (given .stand))
     where
-      go : (values : List ℤ) → Four values → Standing text at next (checkedLines loadFields values) → Written 5 at next (loadOf values)
-      go values (four {a} {b} {c} {d}) stand = (refl, load-written load-lines refl a b c d at next stand)
+      go : (values : List Marked) → FourMarked values → Standing text at next (checkedLines loadFields values) → Written 5 at next (withMarks loadOf values)
+      go values (four {a} {b} {c} {d}) stand = (refl, (load-written loadFields load-long values refl at next stand, marks-few values))
   of-kind-written (suc (suc (suc (suc (suc (suc k)))))) at next h e = absurd (omega arith)
 
   pub resource-written :
       (at next : ℕ) {one : Resource} → resourceAt text at ≡ got one next →
-      Standing text at next (checkedLine kindField (rowOfResource id one .kind) ∷ linesOfKind (rowOfResource id one .kind) (rowOfResource id one))
+      Standing text at next (checkedLine kindField (rowOfResource id one .kind) ∷ linesOfKind (rowOfResource id one .kind) (rowOfResource id one)) × MarksFit one
   resource-written at next {one} e =
       let f = resource-followed text at e in
       let line = line-cuts kindField kinds-sound text at (f .one) (f .after) (f .given) in
-      let rest = of-kind-written (f .one) (f .after) next (kind-listed text (f .one) (line .1)) (f .then) in
-      subst⁻¹ (λ (k : ℕ). Standing text at next (checkedLine kindField k ∷ linesOfKind k (rowOfResource id one))) (rest .0)
-      (standing-more text at next (checkedLine kindField (f .one)) (linesOfKind (f .one) (rowOfResource id one)) (f .after) line (rest .1))
+      let rest = of-kind-written (f .one) (f .after) next (kind-listed text (f .one) (line .1)) (f .then) in (
+        subst⁻¹ (λ (k : ℕ). Standing text at next (checkedLine kindField k ∷ linesOfKind k (rowOfResource id one))) (rest .0)
+            (standing-more text at next (checkedLine kindField (f .one)) (linesOfKind (f .one) (rowOfResource id one)) (f .after) line (rest .1 .0)),
+        rest .1 .1,
+      )

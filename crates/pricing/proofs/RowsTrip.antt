@@ -31,7 +31,7 @@ use Rattle.pricing_snapshot.proofs.Entries.{no-entries}
 use Rattle.pricing_held.specs.Rows.{Row, resourceOfKind, entryOf}
 use Rattle.pricing_held.specs.Lines.{idLine, linesOfKind, rowLines, rowsLines}
 use Rattle.pricing_held.proofs.Definitions.{entry-of-is, row-lines-are, rows-lines-none, rows-lines-more}
-use Rattle.pricing.proofs.ResourceTrip.{Standing, standing-first, standing-more, Six, resource-reads, rowOfResource, resource-written}
+use Rattle.pricing.proofs.ResourceTrip.{Standing, standing-first, standing-more, Six, resource-reads, rowOfResource, MarksFit, resource-written}
 
 -- ---- lines before others
 
@@ -100,7 +100,7 @@ new-id-written above text at next id e =
 
 abbrev pub AllSix : List Row → Type 0
 AllSix [] = Unit
-AllSix (row ∷ rows) = Six (row .numbers) × AllSix rows
+AllSix (row ∷ rows) = Six row × AllSix rows
 
 -- the answer for one resource more
 abbrev withMore : List ℕ → Resource → LineAnswer (List Entry) → LineAnswer (List Entry)
@@ -129,13 +129,14 @@ rows-read text (row ∷ rows) above at next all stand =
 abbrev pub rowOfEntry : Entry → Row
 rowOfEntry entry = rowOfResource (entry .id) (entry .resource)
 
-abbrev pub ValidIds : List Entry → Type 0
-ValidIds [] = Unit
-ValidIds (entry ∷ entries) = (isId (entry .id) ≡ true) × ValidIds entries
+-- the id is well written, and the marks are those of the resource's numbers
+abbrev pub ValidEntries : List Entry → Type 0
+ValidEntries [] = Unit
+ValidEntries (entry ∷ entries) = ((isId (entry .id) ≡ true) × MarksFit (entry .resource)) × ValidEntries entries
 
--- the lines of their rows stand in a text, and their ids are well written
+-- the lines of their rows stand in a text, and they are valid
 abbrev pub EntriesStand : List ℕ → List (List ℕ) → ℕ → ℕ → List Entry → Type 0
-EntriesStand text above at next entries = Standing text at next (rowsLines above (map rowOfEntry entries)) × ValidIds entries
+EntriesStand text above at next entries = Standing text at next (rowsLines above (map rowOfEntry entries)) × ValidEntries entries
 
 pub entries-written :
     (text : List ℕ) (n : ℕ) (above : List (List ℕ)) (at : ℕ) {entries : List Entry} {next : ℕ} → resourcesAt resourceAt n above text at ≡ got entries next →
@@ -158,9 +159,9 @@ entries-written text (suc n) above at {entries} {next} e =
     let lines = resource-written text (f .one) (f .after) (g .after) (g .given) in
     let first : Standing text at (g .after) (rowLines above row) =
     subst⁻¹ (λ (lines : List CheckedLine). Standing text at (g .after) lines) (row-lines-are above row)
-    (standing-more text at (g .after) (idLine above (f .one)) (checkedLine kindField (row .kind) ∷ linesOfKind (row .kind) row) (f .after) (new .line) lines) in
+    (standing-more text at (g .after) (idLine above (f .one)) (checkedLine kindField (row .kind) ∷ linesOfKind (row .kind) row) (f .after) (new .line) (lines .0)) in
     let stands : Standing text at (h .after) (rowsLines above (row ∷ map rowOfEntry (h .one))) =
     subst⁻¹ (λ (lines : List CheckedLine). Standing text at (h .after) lines) (rows-lines-more above row (map rowOfEntry (h .one)))
     (standing-both text at (h .after) (rowLines above row) (rowsLines (f .one ∷ above) (map rowOfEntry (h .one))) (g .after) first (others .0)) in
     subst (λ (entries : List Entry). EntriesStand text above at next entries) all
-    (subst (λ (last : ℕ). EntriesStand text above at last (withEntry (f .one) (g .one) (h .one))) last (stands, (new .valid, others .1)))
+    (subst (λ (last : ℕ). EntriesStand text above at last (withEntry (f .one) (g .one) (h .one))) last (stands, ((new .valid, lines .1), others .1)))

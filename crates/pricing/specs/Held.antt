@@ -1,4 +1,4 @@
--- Document 02, W-204: what is promised of snapshots held as values, read and written.
+-- Document 02, W-204: what is promised of snapshots held as values, read and written, marks with them (W-206).
 use Prim.Native.Nat.{ℕ, _*_, _≤_, _<_}
 use mathlib.Core.Path.{_≡_}
 use mathlib.Core.Bool.{true}
@@ -62,7 +62,7 @@ OneSnapshotText =
 -- a written text is never too long (2)
 abbrev pub WrittenSnapshotsAreShort : Type 0
 WrittenSnapshotsAreShort =
-    (header : List ℤ) (ids : List ℕ) (numbers : List ℤ) → heldAnswer header ids numbers ≡ answer.Accepted → length (heldText header ids numbers) ≤ 495718
+    (header : List ℤ) (ids : List ℕ) (numbers : List ℤ) → heldAnswer header ids numbers ≡ answer.Accepted → length (heldText header ids numbers) ≤ 516198
 
 -- ---- prices
 
@@ -81,7 +81,7 @@ pub record SnapshotWriting : Type 0 where
   pub buffer : List ℕ
 
 pub data WritingSnapshotCase (header : List ℤ) (ids : List ℕ) (numbers : List ℤ) (buffer : List ℕ) : SnapshotWriting → Type 0 where
-  -- 6, 7 or 8: the first line that is refused; the buffer stands as before
+  -- 6, 7 or 8: the first line that is refused; then 15: the first that a mark turns back; the buffer stands as before
   line-refused :
       {found : Refusal} → heldAnswer header ids numbers ≡ answer.Refused found →
       WritingSnapshotCase header ids numbers buffer (record { answer = answer.Refused found; buffer = buffer })
@@ -108,7 +108,7 @@ pub record SnapshotReading : Type 0 where
   pub numbers : List ℤ
 
 pub data ReadingSnapshotCase (text : List ℕ) (header : List ℤ) (ids : List ℕ) (numbers : List ℤ) : SnapshotReading → Type 0 where
-  -- 2, the first faulty line (3 to 8) or 9, as the text is refused; all that was lent stands as before
+  -- 2, the first faulty line (3 to 8), 9 or 15, as the text is refused; all that was lent stands as before
   text-refused :
       {found : Refusal} → snapshotIn text ≡ refused-by found →
       ReadingSnapshotCase text header ids numbers (record { answer = answer.Refused found; header = header; ids = ids; numbers = numbers })

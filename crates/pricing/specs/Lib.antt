@@ -2,3 +2,4 @@
 pub mod Pricing
 pub mod Promises
 pub mod Held
+pub mod Marks

@@ -4,6 +4,7 @@ use Prim.Native.Nat.{ℕ, _≤_, _<_}
 use mathlib.Core.Path.{_≡_}
 use mathlib.Core.Bool.{true, false}
 use mathlib.Core.List.{List, [], _∷_}
+use lib.Dec.{eqb}
 use lib.IntN.{ℤ}
 use lib.Signed.{_≤ℤ_}
 use lib.ListN.{length}
@@ -27,6 +28,7 @@ use Rattle.pricing_sums.specs.Part.{sumsOf}
 use Rattle.pricing_snapshot.specs.Snapshot.{Entry, Contents, dueLines, SnapshotAnswer, read, resourcesOf, snapshotIn}
 use Rattle.pricing_snapshot.specs.Promises.{FaultyLine}
 use Rattle.pricing.specs.Pricing.{priced}
+use Rattle.pricing_resource.specs.Suspect.{suspectLine}
 use Rattle.pricing_resource.specs.declared.Generator.{Generator}
 use Rattle.pricing_resource.specs.declared.Controllable.{Controllable}
 use Rattle.pricing_resource.specs.declared.Load.{Load}
@@ -61,9 +63,14 @@ pub data PricingCase (curves : CurveSet) (text : List ℕ) : PricingOutcome → 
   bytes-after-lines :
       (found : Contents) (next : ℕ) → curvesInRange curves ≡ true → length text ≤ 1048576 → dueLines text ≡ got found next → next < length text →
       PricingCase curves text (refusedOutcome 9 (lineOf text next))
+  -- then 15 with the line of the first number marked suspect on a unit where that turns the snapshot back (document 02, W-206)
+  number-suspect :
+      (found : Contents) (next : ℕ) → curvesInRange curves ≡ true → length text ≤ 1048576 → dueLines text ≡ got found next → length text ≤ next →
+      eqb (suspectLine (resourcesOf (found .entries))) 0 ≡ false → PricingCase curves text (refusedOutcome 15 (suspectLine (resourcesOf (found .entries))))
   -- the prices are those of the formulas
   snapshot-priced :
       (found : Contents) (next : ℕ) → curvesInRange curves ≡ true → length text ≤ 1048576 → dueLines text ≡ got found next → length text ≤ next →
+      suspectLine (resourcesOf (found .entries)) ≡ 0 →
       PricingCase curves text (record { number = 0; line = 0; values = priceValues (pricesOf curves (found .header) (sumsOf (resourcesOf (found .entries)))) })
 
 -- nothing is refused but in these cases, and where two hold they give one answer
@@ -82,7 +89,8 @@ PricesDependOnHeaderAndSums =
     (curves : CurveSet) (text text′ : List ℕ) (h : Header) (entries entries′ : List Entry) → snapshotIn text ≡ read h entries → snapshotIn text′ ≡ read h entries′ →
     sumsOf (resourcesOf entries) ≡ sumsOf (resourcesOf entries′) → priced curves text ≡ priced curves text′
 
--- ---- demand 3: raised reserve; lower and higher are said of the second against the first
+-- ---- demand 3: raised reserve; lower and higher are said of the second against the first. Marks are neither held nor raised: the two snapshots may differ in
+-- them in any way, since both are accepted and no mark of an accepted snapshot moves a price (Marks.antt)
 
 -- held: kind, status, cold30, net, lsl, nonspin; raised: hsl not lower, base point not higher
 pub record GeneratorRaised (first second : Generator) : Type 0 where

@@ -2,14 +2,17 @@
 use Prim.Native.Nat.{ℕ, zero, suc, _+_, _*_}
 use mathlib.Core.List.{List, [], _∷_, _++_, map}
 use mathlib.Core.Path.{_≡_, refl}
-use lib.IntN.{ℤ}
+use lib.IntN.{ℤ, natAbs}
 use lib.ListN.{take, drop}
+use Rattle.text_refusal.specs.Answer.{followedBy}
 use Rattle.text_id_table.specs.Ids.{idAt}
 use Rattle.text_schema.specs.Schema.{value}
 use Rattle.text_schema.specs.Checked.{checkedLine, textOf, firstRefused}
+use Rattle.pricing_resource.specs.Suspect.{suspectLine}
 use Rattle.pricing_resource_text.specs.Resource.{kindField}
+use Rattle.pricing_snapshot.specs.Snapshot.{resourcesOf}
 use Rattle.pricing_held.specs.Rows.{Row, heldCount, placeOf, rowAt, rowsFrom, heldRows, resourceOfKind, entryOf, headerHeld, contentsHeld}
-use Rattle.pricing_held.specs.Lines.{idLine, linesOfKind, rowLines, rowsLines, headerChecked, heldLines, heldAnswer, heldText}
+use Rattle.pricing_held.specs.Lines.{idLine, linesOfKind, rowLines, rowsLines, headerChecked, heldLines, suspectAnswer, heldAnswer, heldText}
 
 -- ---- rows
 
@@ -20,6 +23,7 @@ pub row-at-is : (ids : List ℕ) (numbers : List ℤ) (i : ℕ) →
       kind = placeOf (value numbers (9 * i));
       status = placeOf (value numbers (9 * i + 1));
       numbers = take 6 (drop (9 * i + 2) numbers);
+      marks = natAbs (value numbers (9 * i + 8));
     }
 unfolding rowAt
 row-at-is ids numbers i = refl
@@ -62,7 +66,8 @@ module _ (header : List ℤ) (ids : List ℕ) (numbers : List ℤ) where
   unfolding heldLines
   held-lines-are = refl
 
-  pub held-answer-is : heldAnswer header ids numbers ≡ firstRefused 1 (heldLines header ids numbers)
+  pub held-answer-is :
+      heldAnswer header ids numbers ≡ followedBy (firstRefused 1 (heldLines header ids numbers)) (suspectAnswer (suspectLine (resourcesOf (contentsHeld header ids numbers .entries))))
   unfolding heldAnswer
   held-answer-is = refl
 

@@ -6,3 +6,4 @@ pub mod RowChecks
 pub mod RowsChecks
 pub mod Held
 pub mod Definitions
+pub mod Suspects

@@ -1,23 +1,27 @@
 -- Numbers one after the other, each within its range or refused by 7: over any schema.
-use Prim.Native.Nat.{ℕ, zero, suc, _+_, _≤_, _<_}
+use Prim.Native.Nat.{ℕ, suc, _+_, _/_, _≤_, _<_}
 use native.Mathlib.Nat.{add-zero}
 use native.Mathlib.Numerals.{add-one}
 use native.Mathlib.Omega.{arith}
 use mathlib.Core.Bool.{Bool, true, false, _&&_, cond}
-use mathlib.Core.List.{List, [], _∷_}
-use mathlib.Core.Path.{_≡_, refl, ap, _∙_}
+use mathlib.Core.List.{List, [], _∷_, _++_, append-nil}
+use mathlib.Core.Path.{_≡_, refl, sym, ap, _∙_}
 use lib.IntN.{ℤ, pos}
-use lib.ListN.{length, take, drop, getD, drop-of-length-le}
+use lib.ListN.{length, drop, getD, drop-of-length-le}
 use lib.Seq.{drop-cons}
 use lib.Signed.{leZ}
 use Rattle.integer.specs.Range.{within}
-use Rattle.text_refusal.specs.Answer.{refusal}
+use Rattle.text_refusal.specs.Answer.{refusal, followedBy}
+use Rattle.text_refusal.specs.declared.answer.Answer.{Answer}
 use Rattle.text_refusal.specs.declared.answer.Answer.the-variants as answer
 use Rattle.text_line.specs.Field.{Field}
-use Rattle.text_number.specs.Field.{numberField}
+use Rattle.text_number.specs.Marked.{Marked, markedField, firstMarked, markedBy}
+use Rattle.text_number.proofs.Marks.{by-first}
 use Rattle.text_schema.specs.Checked.{checkedLine, checkedLines, firstRefused}
-use Rattle.text_schema.proofs.Checked.{NumberLines, no-lines, one-more, number-checked, checked-none, checked-no-values, checked-first, first-none, first-passed, first-here}
-use Rattle.pricing_held.specs.internal.Checks.{numbersChecked}
+use Rattle.text_schema.proofs.Checked.{checked-none, checked-first, first-none, first-passed, first-here}
+use Rattle.text_schema.proofs.Marks.{EachMarked, no-marked, one-marked, marksAfter, marked-checked, unmarked-checked}
+use Rattle.pricing_resource_text.specs.Resource.{flag}
+use Rattle.pricing_held.specs.internal.Checks.{numbersChecked, flagChecked}
 
 -- ---- one after the other
 
@@ -53,30 +57,57 @@ module _ {line : ℕ} {lows highs values : List ℤ} {i : ℕ} (so-far : Numbers
 
 -- ---- by a schema
 
-pub numbers-by-schema :
-    {fields : List (Field ℤ)} {lows highs : List ℤ} → NumberLines fields lows highs → (line : ℕ) (values : List ℤ) →
-    firstRefused line (checkedLines fields values) ≡ numbersChecked line lows highs values
+-- lines that may be marked, with others behind them: a mark refuses none
+pub marked-by-schema :
+    {fields : List (Field Marked)} {lows highs : List ℤ} → EachMarked fields lows highs → (rest : List (Field Marked)) (line marks : ℕ) (numbers others : List ℤ) → length numbers ≡ length lows →
+    firstRefused line (checkedLines (fields ++ rest) (markedBy marks (numbers ++ others))) ≡
+    followedBy (numbersChecked line lows highs numbers) (firstRefused (line + length lows) (checkedLines rest (markedBy (marksAfter (length lows) marks) others)))
 unfolding numbersChecked
-numbers-by-schema no-lines line [] = rw (checked-none {A = ℤ} []) (first-none line)
-numbers-by-schema no-lines line (z ∷ values) = rw (checked-none {A = ℤ} (z ∷ values)) (first-none line)
-numbers-by-schema (one-more {key} {low} {high} {fields} one more) line [] = rw (checked-no-values (numberField key low high ∷ fields)) (first-none line)
-numbers-by-schema (one-more {key} {low} {high} {fields} {lows} {highs} one more) line (z ∷ values) =
-    rw (checked-first (numberField key low high) fields z values) (go (leZ low z && leZ z high) (number-checked key low high z) (numbers-by-schema more (suc line) values))
+marked-by-schema no-marked rest line marks [] others e = rw (add-zero line)
+marked-by-schema no-marked rest line marks (z ∷ numbers) others e = absurd (omega arith)
+marked-by-schema (one-marked more) rest line marks [] others e = absurd (omega arith)
+marked-by-schema (one-marked {key} {low} {high} {fields} {lows} {highs} more) rest line marks (z ∷ numbers) others e =
+    let m : Marked = record { number = z; suspect = firstMarked marks } in
+    rw (by-first marks z (numbers ++ others), checked-first (markedField key low high) (fields ++ rest) m (markedBy (marks / 2) (numbers ++ others)))
+    (go (leZ low z && leZ z high) (marked-checked key low high m) (marked-by-schema more rest (suc line) (marks / 2) numbers others (omega arith)))
   where
-    go : (b : Bool) → checkedLine (numberField key low high) z .number ≡ cond b 0 7 →
-        firstRefused (suc line) (checkedLines fields values) ≡ numbersChecked (suc line) lows highs values →
-        firstRefused line (checkedLine (numberField key low high) z ∷ checkedLines fields values) ≡ cond b (numbersChecked (suc line) lows highs values) (refusal 7 line)
-    go true e again = first-passed line (checkedLine (numberField key low high) z) (checkedLines fields values) e ∙ again
-    go false e again =
-        first-here line (checkedLine (numberField key low high) z) (checkedLines fields values) (rw e) ∙ ap (λ (n : ℕ). refusal n line) e
+    go : (b : Bool) → checkedLine (markedField key low high) (record { number = z; suspect = firstMarked marks }) .number ≡ cond b 0 7 →
+        firstRefused (suc line) (checkedLines (fields ++ rest) (markedBy (marks / 2) (numbers ++ others))) ≡
+        followedBy (numbersChecked (suc line) lows highs numbers) (firstRefused (suc line + length lows) (checkedLines rest (markedBy (marksAfter (length lows) (marks / 2)) others))) →
+        firstRefused line (checkedLine (markedField key low high) (record { number = z; suspect = firstMarked marks }) ∷ checkedLines (fields ++ rest) (markedBy (marks / 2) (numbers ++ others))) ≡
+        followedBy (cond b (numbersChecked (suc line) lows highs numbers) (refusal 7 line)) (firstRefused (line + suc (length lows)) (checkedLines rest (markedBy (marksAfter (length lows) (marks / 2)) others)))
+    go true n again =
+        let place : line + suc (length lows) ≡ suc line + length lows = omega arith in
+        first-passed line (checkedLine (markedField key low high) (record { number = z; suspect = firstMarked marks })) (checkedLines (fields ++ rest) (markedBy (marks / 2) (numbers ++ others))) n ∙ rw place again
+    go false n again =
+        first-here line (checkedLine (markedField key low high) (record { number = z; suspect = firstMarked marks })) (checkedLines (fields ++ rest) (markedBy (marks / 2) (numbers ++ others))) (rw n) ∙ ap (λ (number : ℕ). refusal number line) n
 
--- no more numbers are looked at than there are bounds
-pub numbers-taken : (line : ℕ) (lows highs values : List ℤ) (n : ℕ) → length lows ≤ n → numbersChecked line lows highs (take n values) ≡ numbersChecked line lows highs values
-unfolding numbersChecked
-numbers-taken line lows highs [] zero h = refl
-numbers-taken line lows highs [] (suc n) h = refl
-numbers-taken line [] highs (z ∷ values) zero h = refl
-numbers-taken line [] highs (z ∷ values) (suc n) h = refl
-numbers-taken line (low ∷ lows) highs (z ∷ values) zero h = absurd (omega arith)
-numbers-taken line (low ∷ lows) [] (z ∷ values) (suc n) h = refl
-numbers-taken line (low ∷ lows) (high ∷ highs) (z ∷ values) (suc n) h = rw (numbers-taken (suc line) lows highs values n (omega arith))
+-- none behind them
+pub marked-alone :
+    {fields : List (Field Marked)} {lows highs : List ℤ} → EachMarked fields lows highs → (line marks : ℕ) (numbers others : List ℤ) → length numbers ≡ length lows →
+    firstRefused line (checkedLines fields (markedBy marks (numbers ++ others))) ≡ numbersChecked line lows highs numbers
+marked-alone {fields} {lows} {highs} lines line marks numbers others e =
+    ap (λ (all : List (Field Marked)). firstRefused line (checkedLines all (markedBy marks (numbers ++ others)))) (sym (append-nil fields))
+    ∙ marked-by-schema lines [] line marks numbers others e
+    ∙ rw (checked-none {A = Marked} (markedBy (marksAfter (length lows) marks) others), first-none (line + length lows)) (go (numbersChecked line lows highs numbers))
+  where
+    go : (found : Answer) → followedBy found answer.Accepted ≡ found
+    go answer.Accepted = refl
+    go (answer.Refused found) = refl
+
+-- a flag before others: a mark refuses it
+pub flag-by-schema :
+    (key : List ℕ) (rest : List (Field Marked)) (line marks : ℕ) (z : ℤ) (others : List ℤ) →
+    firstRefused line (checkedLines (flag key ∷ rest) (markedBy marks (z ∷ others))) ≡
+    followedBy (flagChecked line (firstMarked marks) z) (firstRefused (line + 1) (checkedLines rest (markedBy (marks / 2) others)))
+flag-by-schema key rest line marks z others =
+    let m : Marked = record { number = z; suspect = firstMarked marks } in
+    rw (by-first marks z others, checked-first (flag key) rest m (markedBy (marks / 2) others), add-one line)
+    (go (firstMarked marks) (leZ (pos 0) z && leZ z (pos 1)) (unmarked-checked key (pos 0) (pos 1) m))
+  where
+    go : (b inside : Bool) → checkedLine (flag key) (record { number = z; suspect = firstMarked marks }) .number ≡ cond b 6 (cond inside 0 7) →
+        firstRefused line (checkedLine (flag key) (record { number = z; suspect = firstMarked marks }) ∷ checkedLines rest (markedBy (marks / 2) others)) ≡
+        followedBy (cond b (refusal 6 line) (cond inside answer.Accepted (refusal 7 line))) (firstRefused (suc line) (checkedLines rest (markedBy (marks / 2) others)))
+    go true inside n = first-here line (checkedLine (flag key) (record { number = z; suspect = firstMarked marks })) (checkedLines rest (markedBy (marks / 2) others)) (rw n) ∙ ap (λ (number : ℕ). refusal number line) n
+    go false true n = first-passed line (checkedLine (flag key) (record { number = z; suspect = firstMarked marks })) (checkedLines rest (markedBy (marks / 2) others)) n
+    go false false n = first-here line (checkedLine (flag key) (record { number = z; suspect = firstMarked marks })) (checkedLines rest (markedBy (marks / 2) others)) (rw n) ∙ ap (λ (number : ℕ). refusal number line) n

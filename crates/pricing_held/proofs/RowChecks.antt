@@ -5,7 +5,7 @@ use native.Mathlib.Omega.{arith}
 use mathlib.Core.Bool.{true, false}
 use mathlib.Core.List.{List, _∷_}
 use mathlib.Core.Path.{_≡_, refl, sym, ap, _∙_}
-use lib.IntN.{ℤ}
+use lib.IntN.{ℤ, natAbs}
 use lib.ListN.{take, drop, getD, set}
 use lib.Seq.{getD-drop, drop-drop}
 use Rattle.text_refusal.specs.Answer.{refusal}
@@ -41,13 +41,13 @@ module _ (above : List (List ℕ)) (bytes : List ℕ) where
 -- ---- the lines of a row by its numbers
 
 -- they don't hang on the id
-pub lines-alike : (k : ℕ) (row row′ : Row) → row .status ≡ row′ .status → row .numbers ≡ row′ .numbers → linesOfKind k row ≡ linesOfKind k row′
-lines-alike zero row row′ s n = rw (s, n)
-lines-alike (suc zero) row row′ s n = rw (s, n)
-lines-alike (suc (suc zero)) row row′ s n = rw (s, n)
-lines-alike (suc (suc (suc zero))) row row′ s n = rw (s, n)
-lines-alike (suc (suc (suc (suc zero)))) row row′ s n = rw n
-lines-alike (suc (suc (suc (suc (suc k))))) row row′ s n = rw n
+pub lines-alike : (k : ℕ) (row row′ : Row) → row .status ≡ row′ .status → row .numbers ≡ row′ .numbers → row .marks ≡ row′ .marks → linesOfKind k row ≡ linesOfKind k row′
+lines-alike zero row row′ s n m = rw (s, n, m)
+lines-alike (suc zero) row row′ s n m = rw (s, n, m)
+lines-alike (suc (suc zero)) row row′ s n m = rw (s, n, m)
+lines-alike (suc (suc (suc zero))) row row′ s n m = rw (s, n, m)
+lines-alike (suc (suc (suc (suc zero)))) row row′ s n m = rw (n, m)
+lines-alike (suc (suc (suc (suc (suc k))))) row row′ s n m = rw (n, m)
 
 module _ (ids : List ℕ) (numbers : List ℤ) (i : ℕ) {values : List ℤ} (there : values ≡ drop (9 * i) numbers) where
   -- the lines after the id's
@@ -60,10 +60,11 @@ module _ (ids : List ℕ) (numbers : List ℤ) (i : ℕ) {values : List ℤ} (th
       let first : value values 0 ≡ value numbers (9 * i) = rw (there, getD-drop, add-zero) in
       let second : value values 1 ≡ value numbers (9 * i + 1) = rw (there, getD-drop) in
       let rest : take 6 (drop 2 values) ≡ take 6 (drop (9 * i + 2) numbers) = ap (λ (l : List ℤ). take 6 (drop 2 l)) there ∙ ap (take 6) (drop-drop 2 (9 * i) numbers) in
+      let marks : value values 8 ≡ value numbers (9 * i + 8) = rw (there, getD-drop) in
       let kind : ℕ = placeOf (value values 0) in
       ap (λ (k : ℕ). idLine above (idAt 0 ids (32 * i)) ∷ (checkedLine kindField k ∷ linesOfKind k (rowAt ids numbers i))) (ap placeOf (sym first)) ∙
       ap (λ (lines : List CheckedLine). idLine above (idAt 0 ids (32 * i)) ∷ (checkedLine kindField kind ∷ lines))
-      (sym (lines-alike kind (rowOf values) (rowAt ids numbers i) (ap placeOf second) rest))
+      (sym (lines-alike kind (rowOf values) (rowAt ids numbers i) (ap placeOf second) rest (ap natAbs marks)))
 
   pub row-id : rowAt ids numbers i .id ≡ idAt 0 ids (32 * i)
   unfolding rowAt

@@ -5,7 +5,7 @@ use native.Mathlib.Numerals.{add-one}
 use native.Mathlib.Omega.{arith}
 use mathlib.Core.Bool.{Bool, true, false, cond}
 use mathlib.Core.List.{List, [], _∷_}
-use mathlib.Core.Path.{_≡_, refl, sym, ap, _∙_}
+use mathlib.Core.Path.{_≡_, refl, sym, _∙_}
 use borrow.Author.Tests.{le-ltb}
 use lib.Dec.{ltb}
 use lib.IntN.{ℤ}
@@ -15,13 +15,15 @@ use Rattle.text_refusal.specs.Answer.{followedBy}
 use Rattle.text_refusal.specs.declared.refusal.Refusal.{Refusal}
 use Rattle.text_refusal.specs.declared.answer.Answer.{Answer}
 use Rattle.text_refusal.specs.declared.answer.Answer.the-variants as answer
-use Rattle.text_line.specs.Field.{Field}
 use Rattle.text_id_table.specs.internal.Kept.{IdTable, RoomForOne, Room}
 use Rattle.text_id_table.proofs.Table.{table-room}
 use Rattle.text_schema.specs.Schema.{value}
 use Rattle.text_schema.specs.Checked.{checkedLines, firstRefused}
-use Rattle.text_schema.proofs.Checked.{NumberLines, no-lines, one-more, checked-none, checked-first, first-none, first-append}
-use Rattle.pricing_resource_text.proofs.Places.{generator-lines, controllable-lines, load-lines}
+use Rattle.text_number.specs.Marked.{markedBy}
+use Rattle.text_number.proofs.Marks.{by-length}
+use Rattle.text_schema.proofs.Checked.{checked-length, first-none, first-append}
+use Rattle.pricing_resource_text.specs.Resource.{generatorFields, controllableFields, loadFields}
+use Rattle.pricing_resource_text.proofs.Lines.{generator-long, controllable-long, load-long}
 use Rattle.pricing_held.specs.Rows.{Row, heldCount, placeOf, rowAt, rowsFrom}
 use Rattle.pricing_held.specs.Lines.{linesOfKind, rowLines, rowsLines}
 use Rattle.pricing_held.specs.internal.Checks.{lineCount, RowRoom, RowChecked}
@@ -29,21 +31,28 @@ use Rattle.pricing_held.proofs.Counts.{held-ids, held-numbers}
 
 -- ---- how many lines a row has
 
--- as many as fields, where there are as many values
-pub lines-counted : {fields : List (Field ℤ)} {lows highs : List ℤ} → NumberLines fields lows highs → (values : List ℤ) → length lows ≤ length values → length (checkedLines fields values) ≡ length lows
-lines-counted no-lines values h = rw (checked-none {A = ℤ} values)
-lines-counted (one-more one more) [] h = absurd (omega arith)
-lines-counted (one-more {key} {low} {high} {fields} one more) (z ∷ values) h = rw (checked-first _ fields z values) (ap suc (lines-counted more values (omega arith)))
-
 count-of-kind : (k : ℕ) (row : Row) → length (row .numbers) ≡ 6 → length (linesOfKind k row) + 2 ≡ lineCount k
-count-of-kind zero row six = let n = lines-counted generator-lines (row .numbers) (omega arith) in omega arith
-count-of-kind (suc zero) row six = let n = lines-counted generator-lines (row .numbers) (omega arith) in omega arith
-count-of-kind (suc (suc zero)) row six = let n = lines-counted generator-lines (row .numbers) (omega arith) in omega arith
-count-of-kind (suc (suc (suc zero))) row six = let n = lines-counted generator-lines (row .numbers) (omega arith) in omega arith
-count-of-kind (suc (suc (suc (suc zero)))) row six = let n = lines-counted controllable-lines (row .numbers) (omega arith) in omega arith
-count-of-kind (suc (suc (suc (suc (suc k))))) row six =
-    let n = lines-counted load-lines (row .numbers) (omega arith) in
-    rw (le-ltb (suc (suc (suc (suc (suc k))))) 4 (omega arith)) (omega arith)
+count-of-kind k row six = go k
+  where
+    marked : length (markedBy (row .marks) (row .numbers)) ≡ 6
+    marked = by-length (row .marks) (row .numbers) ∙ six
+
+    generator : length (checkedLines generatorFields (markedBy (row .marks) (row .numbers))) ≡ 6
+    generator = checked-length generatorFields (markedBy (row .marks) (row .numbers)) (omega (arith, generator-long, marked)) ∙ generator-long
+
+    controllable : length (checkedLines controllableFields (markedBy (row .marks) (row .numbers))) ≡ 4
+    controllable = checked-length controllableFields (markedBy (row .marks) (row .numbers)) (omega (arith, controllable-long, marked)) ∙ controllable-long
+
+    load : length (checkedLines loadFields (markedBy (row .marks) (row .numbers))) ≡ 4
+    load = checked-length loadFields (markedBy (row .marks) (row .numbers)) (omega (arith, load-long, marked)) ∙ load-long
+
+    go : (k : ℕ) → length (linesOfKind k row) + 2 ≡ lineCount k
+    go zero = omega (arith, generator)
+    go (suc zero) = omega (arith, generator)
+    go (suc (suc zero)) = omega (arith, generator)
+    go (suc (suc (suc zero))) = omega (arith, generator)
+    go (suc (suc (suc (suc zero)))) = omega (arith, controllable)
+    go (suc (suc (suc (suc (suc k))))) = rw (le-ltb (suc (suc (suc (suc (suc k))))) 4 (omega arith)) (omega (arith, load))
 
 row-count : (ids : List ℕ) (numbers : List ℤ) (i : ℕ) (above : List (List ℕ)) → 9 * i + 9 ≤ length numbers → length (rowLines above (rowAt ids numbers i)) ≡ lineCount (placeOf (value numbers (9 * i)))
 unfolding rowLines rowAt

@@ -1,5 +1,5 @@
 // A snapshot held as values: a header of eight numbers, and for each resource a row of bytes with its id and a row of numbers with its kind, its status and its
-// numbers. How many resources are held, and the first line of their text that would be refused.
+// numbers and their marks. How many resources are held, and the first line of their text that would be refused.
 ghost use mathlib.Core.Path.{_≡_};
 ghost use Prim.Native.Nat.{_≤_};
 ghost use mathlib.Core.List.{[]};
@@ -7,6 +7,7 @@ ghost use Rattle.text_schema.specs.Checked.{firstRefused};
 ghost use Rattle.pricing_held.specs.Rows.{heldCount, placeOf, rowsFrom, headerHeld};
 ghost use Rattle.pricing_held.specs.Lines.{rowsLines, heldAnswer};
 use crate::rows::check_rows;
+use crate::suspect::suspect_line;
 use integer::magnitude;
 use pricing_sums::header::Header;
 use pricing_sums::header::header_fault;
@@ -14,6 +15,7 @@ use text_refusal::answer::Answer;
 use text_refusal::refusal::Refusal;
 
 mod rows;
+mod suspect;
 mod values;
 
 // How many resources are held: as many as there are whole rows of 32 bytes and of 9 numbers.
@@ -75,7 +77,7 @@ fn rows_checked(ids: &[u8], numbers: &[i64], count: usize) -> Answer
     check_rows(ids, numbers, count, &mut starts)
 }
 
-// Whether the text of a snapshot held as values can be written, or its first refused line.
+// Whether the text of a snapshot held as values can be written, or its first refused line, or the first that a mark turns back.
 pub fn held_check(header: &[i64; 8], ids: &[u8], numbers: &[i64]) -> Answer
     ensures { λ r. ⌜ r ≡ heldAnswer (now (header .entry)) (now (ids .entry)) (now (numbers .entry)) ⌝ }
 {
@@ -84,5 +86,16 @@ pub fn held_check(header: &[i64; 8], ids: &[u8], numbers: &[i64]) -> Answer
     if line != 0 {
         return Answer::Refused(Refusal { number: 7, line });
     }
-    rows_checked(ids, numbers, count)
+    let found = rows_checked(ids, numbers, count);
+    let Answer::Accepted = found else {
+        return found;
+    };
+    let suspect = suspect_line(numbers, count);
+    if suspect != 0 {
+        return Answer::Refused(Refusal {
+            number: 15,
+            line: suspect,
+        });
+    }
+    Answer::Accepted
 }

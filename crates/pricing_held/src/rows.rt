@@ -19,7 +19,7 @@ use text_refusal::answer::Answer;
 use text_refusal::refusal::Refusal;
 
 // How many lines a row has.
-fn row_lines(numbers: &[i64], i: usize) -> usize
+pub(crate) fn row_lines(numbers: &[i64], i: usize) -> usize
     requires { ⌜ 9 * i + 9 ≤ length (now numbers) ⌝ }
     ensures { λ r. ⌜ r ≡ lineCount (placeOf (value (now (numbers .entry)) (9 * i))) ⌝ }
 {

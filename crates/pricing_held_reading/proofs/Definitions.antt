@@ -17,15 +17,15 @@ unfolding idRow
 id-row-is id = refl
 
 pub generator-row : (g : Generator) →
-    numberRow (resource.Generator g) ≡ kindPlace (g .kind) ∷ statusPlace (g .status) ∷ g .net ∷ g .lsl ∷ g .hsl ∷ g .base ∷ g .nonspin ∷ g .cold30 ∷ pos 0 ∷ []
+    numberRow (resource.Generator g) ≡ kindPlace (g .kind) ∷ statusPlace (g .status) ∷ g .net ∷ g .lsl ∷ g .hsl ∷ g .base ∷ g .nonspin ∷ g .cold30 ∷ pos (g .marks) ∷ []
 unfolding numberRow
 generator-row g = refl
 
-pub controllable-row : (c : Controllable) → numberRow (resource.Controllable c) ≡ pos 4 ∷ pos 0 ∷ c .base ∷ c .lpc ∷ c .nonspin ∷ c .regup ∷ pos 0 ∷ pos 0 ∷ pos 0 ∷ []
+pub controllable-row : (c : Controllable) → numberRow (resource.Controllable c) ≡ pos 4 ∷ pos 0 ∷ c .base ∷ c .lpc ∷ c .nonspin ∷ c .regup ∷ pos 0 ∷ pos 0 ∷ pos (c .marks) ∷ []
 unfolding numberRow
 controllable-row c = refl
 
-pub load-row : (l : Load) → numberRow (resource.Load l) ≡ pos 5 ∷ pos 0 ∷ l .rrsok ∷ l .net ∷ l .lpc ∷ l .rrs ∷ pos 0 ∷ pos 0 ∷ pos 0 ∷ []
+pub load-row : (l : Load) → numberRow (resource.Load l) ≡ pos 5 ∷ pos 0 ∷ l .rrsok ∷ l .net ∷ l .lpc ∷ l .rrs ∷ pos 0 ∷ pos 0 ∷ pos (l .marks) ∷ []
 unfolding numberRow
 load-row l = refl
 

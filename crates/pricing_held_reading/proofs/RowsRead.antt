@@ -2,17 +2,23 @@
 use Prim.Native.Nat.{ℕ, zero, suc, _+_, _-_, _≤_, _<_}
 use native.Mathlib.Omega.{arith}
 use mathlib.Core.List.{List, [], _∷_, _++_}
-use mathlib.Core.Path.{_≡_, refl, sym, ap, subst}
+use mathlib.Core.Path.{_≡_, refl, sym, ap, subst, _∙_}
+use lib.Dec.{lit≤}
 use lib.IntN.{ℤ, pos, negℤ}
 use lib.ListN.{length, take, drop, set, replicate}
 use Rattle.text_refusal.specs.Bytes.{bytes}
 use Rattle.text_line.specs.Field.{got, fieldAt}
+use Rattle.text_line.proofs.Pieces.{computedPieces}
+use Rattle.text_number.specs.Marked.{markedBy}
+use Rattle.text_schema.specs.Schema.{readFields}
+use Rattle.text_schema.proofs.Fields.{schemaFields}
+use Rattle.text_schema.proofs.Readings.{reading-length}
 use Rattle.pricing_resource.specs.declared.Kind.{Kind}
 use Rattle.pricing_resource.specs.declared.Kind.the-variants as kind
 use Rattle.pricing_resource.specs.declared.Resource.{Resource}
-use Rattle.pricing_resource_text.specs.Resource.{kindWords, kindField, statusWords, statusField, statusOf, generatorFields, controllableFields, loadFields, generatorOf, controllableOf, loadOf, linesAs, generatorAt, ofKind, resourceAt}
-use Rattle.pricing_resource_text.proofs.Lines.{generator-computed, controllable-computed, load-computed}
-use Rattle.pricing_resource_text.proofs.Readings.{followed, resource-followed}
+use Rattle.pricing_resource_text.specs.Resource.{kindWords, kindField, statusWords, statusField, statusOf, resourcePower, flag, generatorFields, controllableFields, loadFields, generatorOf, controllableOf, loadOf, withMarks, linesAs, generatorAt, ofKind, resourceAt}
+use Rattle.pricing_resource_text.proofs.Lines.{generator-parts, controllable-parts, load-parts}
+use Rattle.pricing_resource_text.proofs.Readings.{followed, lines-given, resource-followed}
 use Rattle.pricing_sums.specs.Header.{headerValues}
 use Rattle.pricing_sums.specs.declared.header.Header.{Header}
 use Rattle.pricing_snapshot.specs.Snapshot.{headerFields, headerOf}
@@ -21,40 +27,55 @@ use Rattle.pricing_held_reading.specs.Reading.{kindPlace, statusPlace, n
 use Rattle.pricing_held_reading.specs.internal.Laying.{NumbersStand}
 use Rattle.pricing_held_reading.proofs.Words.{word-line, status-told}
 use Rattle.pricing_held_reading.proofs.Numbers.{numbers-inside}
-use Rattle.pricing_held_reading.proofs.Readings.{got-same, RowStands, row-stands, listed}
+use Rattle.pricing_held_reading.proofs.Readings.{got-same, SmallNumber, marked-small, unmarked-small, plain-stand, RowStands, row-stands, listed}
 
--- ---- the header
+-- ---- the header, whose numbers carry no marks
 
-pub header-stands : (text : List ℕ) {h : Header} {next : ℕ} → linesAs headerOf headerFields text 0 ≡ got h next → NumbersStand text 0 (6 ∷ 5 ∷ 7 ∷ 7 ∷ 4 ∷ 5 ∷ 6 ∷ 6 ∷ []) (headerValues h) next
+pub header-stands :
+    (text : List ℕ) {h : Header} {next : ℕ} → linesAs headerOf headerFields text 0 ≡ got h next →
+    NumbersStand text 0 (6 ∷ 5 ∷ 7 ∷ 7 ∷ 4 ∷ 5 ∷ 6 ∷ 6 ∷ []) (markedBy 0 (headerValues h)) next
 header-stands text {h} {next} e =
-    let stands =
-    row-stands headerValues headerOf (λ values. values) (bytes "month=hour=lambda=factor=prc=eea1=short=count=") (pos 1 ∷ pos 0 ∷ negℤ (pos 2000000) ∷ replicate 5 (pos 0))
-    (pos 12 ∷ pos 23 ∷ pos 2000000 ∷ pos 10000 ∷ replicate 3 (pos 200000000) ++ (pos 4096 ∷ [])) refl refl header-computed (λ values long. sym (listed 8 values long)) text 0 e in
-    subst (λ (values : List ℤ). NumbersStand text 0 (6 ∷ 5 ∷ 7 ∷ 7 ∷ 4 ∷ 5 ∷ 6 ∷ 6 ∷ []) values next) (sym (stands .is)) (stands .stand)
+    let lows : List ℤ = pos 1 ∷ pos 0 ∷ negℤ (pos 2000000) ∷ replicate 5 (pos 0) in
+    let highs : List ℤ = pos 12 ∷ pos 23 ∷ pos 2000000 ∷ pos 10000 ∷ replicate 3 (pos 200000000) ++ (pos 4096 ∷ []) in
+    let keys = bytes "month=hour=lambda=factor=prc=eea1=short=count=" in
+    let due = schemaFields keys lows highs in
+    let given = lines-given headerOf (readFields due text 0 .values) (readFields due text 0 .end) (rw header-computed at e) in
+    let is : readFields due text 0 .values ≡ headerValues h = listed 8 (readFields due text 0 .values) (reading-length due text 0 next (given .ended)) ∙ ap headerValues (given .made) in
+    subst (λ (values : List ℤ). NumbersStand text 0 (6 ∷ 5 ∷ 7 ∷ 7 ∷ 4 ∷ 5 ∷ 6 ∷ 6 ∷ []) (markedBy 0 values) next) is
+    (plain-stand (computedPieces 61 [] keys) lows highs refl refl text 0 (given .ended))
 
 -- ---- a load
 
--- the row of a load by its four numbers
-abbrev pub loadRow : ℕ → List ℤ → List ℤ
-loadRow k values = pos k ∷ pos 0 ∷ (values ++ (pos 0 ∷ pos 0 ∷ pos 0 ∷ []))
+-- the row of a load by its marks and its four numbers
+abbrev pub loadRow : ℕ → ℕ → List ℤ → List ℤ
+loadRow k marks numbers = pos k ∷ pos 0 ∷ (numbers ++ (pos 0 ∷ pos 0 ∷ pos marks ∷ []))
 
-controllable-stands : (text : List ℕ) (at : ℕ) {one : Resource} {next : ℕ} → linesAs controllableOf controllableFields text at ≡ got one next → RowStands text at (5 ∷ 4 ∷ 8 ∷ 6 ∷ []) numberRow (loadRow 4) one next
+-- a number from 0 to 2000000 that may be marked, and a flag
+power-small : (key : List ℕ) → SmallNumber (resourcePower key)
+power-small key = marked-small key (pos 0) (pos 2000000) (lit≤ tt) (lit≤ tt)
+
+flag-small : (key : List ℕ) → SmallNumber (flag key)
+flag-small key = unmarked-small key (pos 0) (pos 1) (lit≤ tt) (lit≤ tt)
+
+controllable-stands : (text : List ℕ) (at : ℕ) {one : Resource} {next : ℕ} → linesAs (withMarks controllableOf) controllableFields text at ≡ got one next → RowStands text at (5 ∷ 4 ∷ 8 ∷ 6 ∷ []) numberRow (loadRow 4) one next
 unfolding numberRow
 controllable-stands =
-    row-stands numberRow controllableOf (loadRow 4) (bytes "base=lpc=nonspin=regup=") (replicate 4 (pos 0)) (replicate 4 (pos 2000000)) refl refl controllable-computed
-    (λ values long. ap (loadRow 4) (sym (listed 4 values long)))
+    row-stands numberRow controllableOf (loadRow 4) _ controllable-parts
+    (power-small (bytes "base="), (power-small (bytes "lpc="), (power-small (bytes "nonspin="), (power-small (bytes "regup="), tt))))
+    (λ marks numbers long. ap (loadRow 4 marks) (sym (listed 4 numbers long)))
 
-load-stands : (text : List ℕ) (at : ℕ) {one : Resource} {next : ℕ} → linesAs loadOf loadFields text at ≡ got one next → RowStands text at (6 ∷ 4 ∷ 4 ∷ 4 ∷ []) numberRow (loadRow 5) one next
+load-stands : (text : List ℕ) (at : ℕ) {one : Resource} {next : ℕ} → linesAs (withMarks loadOf) loadFields text at ≡ got one next → RowStands text at (6 ∷ 4 ∷ 4 ∷ 4 ∷ []) numberRow (loadRow 5) one next
 unfolding numberRow
 load-stands =
-    row-stands numberRow loadOf (loadRow 5) (bytes "rrsok=net=lpc=rrs=") (replicate 4 (pos 0)) (pos 1 ∷ replicate 3 (pos 2000000)) refl refl load-computed
-    (λ values long. ap (loadRow 5) (sym (listed 4 values long)))
+    row-stands numberRow loadOf (loadRow 5) _ load-parts
+    (flag-small (bytes "rrsok="), (power-small (bytes "net="), (power-small (bytes "lpc="), (power-small (bytes "rrs="), tt))))
+    (λ marks numbers long. ap (loadRow 5 marks) (sym (listed 4 numbers long)))
 
 -- ---- a generator
 
--- its row by its kind, its status and its six numbers
-abbrev pub generatorRow : ℤ → ℤ → List ℤ → List ℤ
-generatorRow k s values = k ∷ s ∷ (values ++ (pos 0 ∷ []))
+-- its row by its kind, its status, its marks and its six numbers
+abbrev pub generatorRow : ℤ → ℤ → ℕ → List ℤ → List ℤ
+generatorRow k s marks numbers = k ∷ s ∷ (numbers ++ (pos marks ∷ []))
 
 pub record GeneratorStands (text : List ℕ) (k at : ℕ) (one : Resource) (next : ℕ) : Type 0 where
   pub status : ℕ
@@ -79,20 +100,21 @@ status-end : (text : List ℕ) (at : ℕ) {s next : ℕ} → fieldAt statusField
 status-end text at {s} {next} e = omega (arith, got-same e (status-told text at (record { value = s; next = next; is = e }) .is) .1)
 
 numbers-stand :
-    (k : Kind) (s : ℕ) (text : List ℕ) (at : ℕ) {one : Resource} {next : ℕ} → linesAs (generatorOf k (statusOf s)) generatorFields text at ≡ got one next →
+    (k : Kind) (s : ℕ) (text : List ℕ) (at : ℕ) {one : Resource} {next : ℕ} → linesAs (withMarks (generatorOf k (statusOf s))) generatorFields text at ≡ got one next →
     RowStands text at (4 ∷ 4 ∷ 4 ∷ 5 ∷ 8 ∷ 7 ∷ []) numberRow (generatorRow (kindPlace k) (statusPlace (statusOf s))) one next
 unfolding numberRow
 numbers-stand k s =
     let rowOf = generatorRow (kindPlace k) (statusPlace (statusOf s)) in
-    row-stands numberRow (generatorOf k (statusOf s)) rowOf (bytes "net=lsl=hsl=base=nonspin=cold30=") (negℤ (pos 2000000) ∷ replicate 5 (pos 0))
-    (replicate 5 (pos 2000000) ++ (pos 1 ∷ [])) refl refl generator-computed (λ values long. ap rowOf (sym (listed 6 values long)))
+    row-stands numberRow (generatorOf k (statusOf s)) rowOf _ generator-parts
+    (marked-small (bytes "net=") (negℤ (pos 2000000)) (pos 2000000) (lit≤ tt) (lit≤ tt), (power-small (bytes "lsl="), (power-small (bytes "hsl="), (power-small (bytes "base="), (power-small (bytes "nonspin="), (flag-small (bytes "cold30="), tt))))))
+    (λ marks numbers long. ap (rowOf marks) (sym (listed 6 numbers long)))
 
 pub generator-stands : (text : List ℕ) (k at : ℕ) → k < 4 → {one : Resource} {next : ℕ} → ofKind text k at ≡ got one next → GeneratorStands text k at one next
 generator-stands text k at h {one} {next} e = go k h e
   where
     by : (k : ℕ) (of : Kind) → kindPlace of ≡ pos k → generatorAt of text at ≡ got one next → GeneratorStands text k at one next
     by k of place e =
-        let f = followed (fieldAt statusField text at) (λ s next. linesAs (generatorOf of (statusOf s)) generatorFields text next) e in
+        let f = followed (fieldAt statusField text at) (λ s next. linesAs (withMarks (generatorOf of (statusOf s))) generatorFields text next) e in
         let numbers = numbers-stand of (f .one) text (f .after) (f .then) in
         let few : f .one < 7 = word-line (bytes "status=") statusWords text at (f .given) .0 in
         record {
@@ -130,15 +152,15 @@ module _ (text : List ℕ) (at : ℕ) {k start : ℕ} (kind-read : fieldAt kindF
     pub of-load : k ≡ 5 → RowStands text start (6 ∷ 4 ∷ 4 ∷ 4 ∷ []) numberRow (loadRow k) one next
     of-load is = rw is (load-stands text start (rw is at of-kind))
 
--- ---- the rows of 9 numbers as the code lays them
+-- ---- the rows of 9 numbers as the code lays them, the marks last
 
-module _ (row values : List ℤ) (long : length row ≡ 9) where
+module _ (row numbers : List ℤ) (long : length row ≡ 9) (a b marks : ℤ) where
   pub generator-laid :
-      (a b : ℤ) → let laid : List ℤ = set (set (set row 0 a) 1 b) 8 (pos 0) in
-      take 2 laid ++ (values ++ drop 6 (drop 2 laid)) ≡ generatorRow a b values
-  generator-laid a b = rw (listed 9 row long)
+      length numbers ≡ 6 → let laid : List ℤ = set (set row 0 a) 1 b in
+      set (take 2 laid ++ (numbers ++ drop 6 (drop 2 laid))) 8 marks ≡ a ∷ b ∷ (numbers ++ (marks ∷ []))
+  generator-laid six = rw (listed 9 row long, listed 6 numbers six)
 
   pub load-laid :
-      (a b : ℤ) → let laid : List ℤ = set (set (set (set (set row 0 a) 1 b) 6 (pos 0)) 7 (pos 0)) 8 (pos 0) in
-      take 2 laid ++ (values ++ drop 4 (drop 2 laid)) ≡ a ∷ b ∷ (values ++ (pos 0 ∷ pos 0 ∷ pos 0 ∷ []))
-  load-laid a b = rw (listed 9 row long)
+      length numbers ≡ 4 → let laid : List ℤ = set (set (set (set row 0 a) 1 b) 6 (pos 0)) 7 (pos 0) in
+      set (take 2 laid ++ (numbers ++ drop 4 (drop 2 laid))) 8 marks ≡ a ∷ b ∷ (numbers ++ (pos 0 ∷ pos 0 ∷ marks ∷ []))
+  load-laid four = rw (listed 9 row long, listed 4 numbers four)

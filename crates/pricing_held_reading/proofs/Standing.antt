@@ -1,21 +1,21 @@
 -- Laws of bytes that stand at a position, ended by byte 10: each of them, and where they end.
 use Prim.Native.Nat.{ℕ, zero, suc, _+_, _-_, _*_, _≤_, _<_}
+use native.Mathlib.Nat.{add-zero}
 use native.Mathlib.Omega.{arith}
 use mathlib.Core.Bool.{Bool, true, false}
 use mathlib.Core.List.{List, [], _∷_, _++_, append-assoc}
 use mathlib.Core.Path.{_≡_, refl, sym, ap, _∙_}
-use lib.Dec.{ltb}
+use lib.Dec.{eqb, ltb}
+use lib.IntN.{pos}
 use lib.ListN.{length, drop, getD, length-append, length-drop, List·getD-append}
 use lib.Seq.{getD-drop, getD-append-seam, drop-drop, drop-append-seam, take-all}
-use borrow.Author.Tests.{ltb-true, ltb-false, eqb-false}
+use borrow.Author.Tests.{ltb-true, ltb-false, eqb-false, eq-eqb, ne-eqb}
 use Rattle.text_line.specs.Line.{OneLine}
 use Rattle.text_line.specs.Field.{Field, got, fieldAt}
 use Rattle.text_line.proofs.FieldTexts.{field-read}
 use Rattle.text_line.proofs.LineBytes.{one-line-rest}
-use Rattle.text_number.specs.Number.{digitsOf}
-use Rattle.text_number.proofs.Digits.{digit-at, plain-digits}
-use Rattle.text_number.proofs.Naturals.{DigitsRead, digits-next, digits-fit}
-use Rattle.text_number.proofs.WrittenDigits.{digits-line, digits-plain, digits-value, digits-within}
+use Rattle.text_number.specs.Number.{valueOf}
+use Rattle.text_number.proofs.MarkedDigits.{BytesTaken, taken-none, taken-next, taken-small, markedDigits, marked-one-line, marked-byte, marked-few, suspect-worth, plain-worth, marked-ends, marked-some}
 use Rattle.pricing_held_reading.specs.internal.Laying.{Stands, DigitsStand}
 
 -- one line has no byte 10
@@ -37,6 +37,9 @@ module _ {text : List ℕ} {at : ℕ} {bytes : List ℕ} {next : ℕ} (stands : 
 
   pub byte-at : (i : ℕ) → i < length bytes → getD text (at + i) 0 ≡ getD bytes i 0
   byte-at i h = ended-at i (omega arith) ∙ List·getD-append bytes (10 ∷ []) 0 i h
+
+  pub first-at : 0 < length bytes → getD text at 0 ≡ getD bytes 0 0
+  first-at h = rw (add-zero at) at (byte-at 0 h)
 
   end-at : getD text (at + length bytes) 0 ≡ 10
   end-at = ended-at (length bytes) (omega arith) ∙ getD-append-seam bytes 10 [] 0
@@ -82,30 +85,68 @@ line-stands field text at e =
     let read = field-read field text at e in
     record { next-is = omega (arith, read .next-is, length-append (field .key) (read .bytes)); there = read .there }
 
--- ---- the digits of a number, of which so many were taken
+-- ---- the digits of a number with its mark: the first byte, and so many that were taken
 
-module _ {text : List ℕ} {at n next : ℕ} (stand : DigitsStand text at n next) {i value : ℕ} (taken : DigitsRead (digitsOf n) i value) where
+module _ {text : List ℕ} {at n : ℕ} {suspect : Bool} {next : ℕ} (stand : DigitsStand text at n suspect next) where
+  some-bytes : 0 < length (markedDigits n suspect)
+  some-bytes = marked-some (record { number = pos n; suspect = suspect })
+
+  pub first-within : at < length text
+  first-within = omega (arith, some-bytes, stand .stands .next-is, stands-within (stand .stands))
+
+  pub first-is : (48 ≤ getD text at 0) × (getD text at 0 ≤ 63)
+  first-is = rw (first-at (stand .stands) some-bytes) (marked-byte n suspect 0 some-bytes)
+
+  pub first-taken : BytesTaken (markedDigits n suspect) 1 (getD text at 0 - 48)
+  first-taken =
+      let byte = marked-byte n suspect 0 some-bytes in
+      let one : 0 * 10 + (getD (markedDigits n suspect) 0 0 - 48) ≡ getD (markedDigits n suspect) 0 0 - 48 = omega arith in
+      rw (first-at (stand .stands) some-bytes, ← one) (taken-next (markedDigits n suspect) 0 0 some-bytes (taken-none (markedDigits n suspect)) (byte .0) (byte .1))
+
+module _ {text : List ℕ} {at n : ℕ} {suspect : Bool} {next : ℕ} (stand : DigitsStand text at n suspect next) {i value : ℕ} (taken : BytesTaken (markedDigits n suspect) i value) where
   pub digit-within : at + i < length text
   digit-within = byte-within (stand .stands) i (taken .within)
 
   module _ (other : getD text (at + i) 0 ≡ 10 → ⊥) where
-    more : i < length (digitsOf n)
+    more : i < length (markedDigits n suspect)
     more = goes-on (stand .stands) i (taken .within) other
 
-    pub digit-is : (48 ≤ getD text (at + i) 0) × (getD text (at + i) 0 ≤ 57)
-    digit-is = rw (byte-at (stand .stands) i more) (digit-at (digitsOf n) i (plain-digits (digitsOf n) (digits-plain n)) more)
+    pub digit-is : (48 ≤ getD text (at + i) 0) × (getD text (at + i) 0 ≤ 63)
+    digit-is = rw (byte-at (stand .stands) i more) (marked-byte n suspect i more)
 
     pub digit-small : value < 1000000000000000000
-    digit-small = digits-fit (digitsOf n) i value more (omega (arith, digits-within 9 n (omega (arith, stand .small)))) taken
+    digit-small = taken-small (markedDigits n suspect) i value more (omega (arith, marked-few n suspect (stand .small))) taken
 
-    pub digit-taken : DigitsRead (digitsOf n) (i + 1) (value * 10 + (getD text (at + i) 0 - 48))
+    pub digit-taken : BytesTaken (markedDigits n suspect) (i + 1) (value * 10 + (getD text (at + i) 0 - 48))
     digit-taken =
-        rw (byte-at (stand .stands) i more)
-        (digits-next (digitsOf n) i value more taken (rw (byte-at (stand .stands) i more) at (digit-is .0)) (rw (byte-at (stand .stands) i more) at (digit-is .1)))
+        let byte = marked-byte n suspect i more in
+        rw (byte-at (stand .stands) i more) (taken-next (markedDigits n suspect) i value more taken (byte .0) (byte .1))
 
-  pub digits-taken : getD text (at + i) 0 ≡ 10 → (value ≡ n) × (at + i + 1 ≡ next)
-  digits-taken ten =
-      let last = bytes-end (stand .stands) i (taken .within) (digits-line (digitsOf n) (plain-digits (digitsOf n) (digits-plain n))) ten in (
-        taken .worth ∙ rw (take-all i (digitsOf n) (omega (arith, last))) (digits-value n),
-        omega (arith, last, stand .stands .next-is),
-      )
+  -- all bytes were taken; the last one tells whether there is a mark
+  module _ (ten : getD text (at + i) 0 ≡ 10) where
+    all : i ≡ length (markedDigits n suspect)
+    all = bytes-end (stand .stands) i (taken .within) (marked-one-line n suspect) ten
+
+    pub digits-some-taken : 0 < i
+    digits-some-taken = omega (arith, all, marked-some (record { number = pos n; suspect = suspect }))
+
+    pub digits-end : at + i + 1 ≡ next
+    digits-end = omega (arith, all, stand .stands .next-is)
+
+    worth : value ≡ valueOf 0 (markedDigits n suspect)
+    worth = taken .worth ∙ ap (valueOf 0) (take-all i (markedDigits n suspect) (omega (arith, all)))
+
+    last-byte : eqb (getD text (at + i - 1) 0) 63 ≡ suspect
+    last-byte =
+        let before : at + i - 1 ≡ at + (length (markedDigits n suspect) - 1) = omega (arith, all, digits-some-taken) in
+        rw (before, byte-at (stand .stands) (length (markedDigits n suspect) - 1) (omega (arith, all, digits-some-taken))) (marked-ends n suspect)
+
+    pub digits-suspect : getD text (at + i - 1) 0 ≡ 63 → (suspect ≡ true) × (value ≡ n * 10 + 15)
+    digits-suspect mark =
+        let marked : suspect ≡ true = sym last-byte ∙ eq-eqb (getD text (at + i - 1) 0) 63 mark in
+        (marked, worth ∙ ap (λ (b : Bool). valueOf 0 (markedDigits n b)) marked ∙ suspect-worth n)
+
+    pub digits-unmarked : (getD text (at + i - 1) 0 ≡ 63 → ⊥) → (suspect ≡ false) × (value ≡ n)
+    digits-unmarked other =
+        let marked : suspect ≡ false = sym last-byte ∙ ne-eqb (getD text (at + i - 1) 0) 63 other in
+        (marked, worth ∙ ap (λ (b : Bool). valueOf 0 (markedDigits n b)) marked ∙ plain-worth n)

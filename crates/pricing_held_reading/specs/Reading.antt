@@ -1,5 +1,5 @@
--- Document 02, W-204: a snapshot's text read into lent rows: 2, the lines with 3 to 8, 9, then 14 where the rows are fewer than the resources. A refusal leaves all
--- that was lent.
+-- Document 02, W-204: a snapshot's text read into lent rows: 2, the lines with 3 to 8, 9, 15, then 14 where the rows are fewer than the resources. A refusal leaves
+-- all that was lent.
 use Prim.Native.Nat.{ℕ, _-_}
 use mathlib.Core.Path.{_≡_}
 use mathlib.Core.Bool.{cond}
@@ -43,12 +43,12 @@ statusPlace status.Out = pos 6
 unfoldable pub idRow : List ℕ → List ℕ
 idRow id = id ++ replicate (32 - length id) 0
 
--- a row of numbers: kind, status, the numbers of the kind in the order of its lines, then zeros up to 9 numbers; the status of a load is 0
+-- a row of numbers: kind, status, the numbers of the kind in the order of its lines, zeros up to 8 numbers, then the marks; the status of a load is 0
 unfoldable pub numberRow : Resource → List ℤ
 numberRow (resource.Generator g) =
-    kindPlace (g .kind) ∷ statusPlace (g .status) ∷ g .net ∷ g .lsl ∷ g .hsl ∷ g .base ∷ g .nonspin ∷ g .cold30 ∷ pos 0 ∷ []
-numberRow (resource.Controllable c) = pos 4 ∷ pos 0 ∷ c .base ∷ c .lpc ∷ c .nonspin ∷ c .regup ∷ pos 0 ∷ pos 0 ∷ pos 0 ∷ []
-numberRow (resource.Load l) = pos 5 ∷ pos 0 ∷ l .rrsok ∷ l .net ∷ l .lpc ∷ l .rrs ∷ pos 0 ∷ pos 0 ∷ pos 0 ∷ []
+    kindPlace (g .kind) ∷ statusPlace (g .status) ∷ g .net ∷ g .lsl ∷ g .hsl ∷ g .base ∷ g .nonspin ∷ g .cold30 ∷ pos (g .marks) ∷ []
+numberRow (resource.Controllable c) = pos 4 ∷ pos 0 ∷ c .base ∷ c .lpc ∷ c .nonspin ∷ c .regup ∷ pos 0 ∷ pos 0 ∷ pos (c .marks) ∷ []
+numberRow (resource.Load l) = pos 5 ∷ pos 0 ∷ l .rrsok ∷ l .net ∷ l .lpc ∷ l .rrs ∷ pos 0 ∷ pos 0 ∷ pos (l .marks) ∷ []
 
 unfoldable pub idRows : List Entry → List ℕ
 idRows [] = []

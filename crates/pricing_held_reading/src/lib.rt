@@ -26,8 +26,8 @@ fn lay_snapshot(
     ensures { λ r. ⌜ SnapshotLaid (snapshotIn (now (text .entry))) (now (ids .entry)) (now (numbers .entry)) (now (header .exit)) (now (ids .exit)) (now (numbers .exit)) ⌝ }
 {
     let sizes = [6usize, 5, 7, 7, 4, 5, 6, 6];
-    let next = lay_numbers(text, 0, &sizes, header);
-    lay_rows(text, next, count, ids, numbers);
+    let laid = lay_numbers(text, 0, &sizes, header);
+    lay_rows(text, laid.next, count, ids, numbers);
 }
 
 // A text that is accepted is looked at twice: all of it is checked before a lent place is changed, and then its values are laid.

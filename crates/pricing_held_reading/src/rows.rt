@@ -2,10 +2,11 @@
 ghost use mathlib.Core.Path.{_≡_};
 ghost use mathlib.Core.List.{List, [], _∷_, _++_};
 ghost use Prim.Native.Nat.{ℕ, _*_, _≤_, _<_};
-ghost use lib.IntN.{ℤ, pos};
+ghost use lib.IntN.{pos};
 ghost use lib.ListN.{length, replicate};
 ghost use Rattle.text_refusal.specs.Bytes.{bytes};
 ghost use Rattle.text_line.specs.Field.{got, fieldAt};
+ghost use Rattle.text_number.specs.Marked.{Marked, numbersOf, marksOf};
 ghost use Rattle.text_id.specs.Id.{idField};
 ghost use Rattle.text_schema.specs.Schema.{laidOver};
 ghost use Rattle.pricing_resource_text.specs.Resource.{ofKind, resourceAt};
@@ -52,23 +53,25 @@ fn lay_generator(text: &[u8], kind: usize, at: usize, row: &mut [i64]) -> usize
     let start = status.next;
     row[0] = kind as i64;
     row[1] = index as i64;
-    row[8] = 0;
     let sizes = [4usize, 4, 4, 5, 8, 7];
-    lay_numbers(text, start, &sizes, &mut row[2..8])
+    let six = lay_numbers(text, start, &sizes, &mut row[2..8]);
+    row[8] = six.marks as i64;
+    six.next
 }
 
 // The four numbers of a load after its kind laid in its row of 9 numbers; where the next line starts.
 fn lay_load(text: &[u8], kind: usize, at: usize, sizes: &[usize], row: &mut [i64]) -> usize
-    requires { ⌜ (kind < 6) × (length (now sizes) ≡ 4) × (length (now row) ≡ 9) × ((values : List ℤ) × ((next : ℕ) × NumbersStand (now text) at (now sizes) values next)) ⌝ }
+    requires { ⌜ (kind < 6) × (length (now sizes) ≡ 4) × (length (now row) ≡ 9) × ((values : List Marked) × ((next : ℕ) × NumbersStand (now text) at (now sizes) values next)) ⌝ }
     ensures { λ r.
-        ⌜ ((values : List ℤ) (next : ℕ) → NumbersStand (now (text .entry)) at (now (sizes .entry)) values next → (r ≡ next) × (now (row .exit) ≡ pos kind ∷ pos 0 ∷ (values ++ (pos 0 ∷ pos 0 ∷ pos 0 ∷ [])))) ⌝ }
+        ⌜ ((values : List Marked) (next : ℕ) → NumbersStand (now (text .entry)) at (now (sizes .entry)) values next → (r ≡ next) × (now (row .exit) ≡ pos kind ∷ pos 0 ∷ (numbersOf values ++ (pos 0 ∷ pos 0 ∷ pos (marksOf values) ∷ [])))) ⌝ }
 {
     row[0] = kind as i64;
     row[1] = 0;
     row[6] = 0;
     row[7] = 0;
-    row[8] = 0;
-    lay_numbers(text, at, sizes, &mut row[2..6])
+    let four = lay_numbers(text, at, sizes, &mut row[2..6]);
+    row[8] = four.marks as i64;
+    four.next
 }
 
 // The lines of a resource after its id laid in its row of 9 numbers; where the next line starts.

@@ -1,10 +1,11 @@
 // The values of a text that was read already, taken with one look at each byte.
+ghost use mathlib.Core.Bool.{Bool};
 ghost use mathlib.Core.Path.{_≡_};
 ghost use mathlib.Core.List.{List};
-ghost use Prim.Native.Nat.{ℕ, _+_, _<_};
-ghost use lib.IntN.{ℤ};
+ghost use Prim.Native.Nat.{ℕ, _+_, _≤_, _<_};
 ghost use lib.ListN.{length};
 ghost use Rattle.text_line.specs.Field.{got, fieldAt};
+ghost use Rattle.text_number.specs.Marked.{Marked, numbersOf, marksOf};
 ghost use Rattle.pricing_resource_text.specs.Resource.{kindField, statusField};
 ghost use Rattle.pricing_held_reading.specs.internal.Laying.{Got, DigitsStand, NumberStands, NumbersStand};
 
@@ -14,15 +15,23 @@ pub(crate) struct WordAt {
     pub next: usize,
 }
 
-// The digits of a number by their value, and where the next line starts.
+// The digits of a number by their value, whether a mark stands behind them, and where the next line starts.
 pub(crate) struct DigitsAt {
     pub value: u64,
+    pub suspect: bool,
     pub next: usize,
 }
 
-// A number, and where the next line starts.
+// A number, whether it is marked suspect, and where the next line starts.
 pub(crate) struct NumberAt {
     pub value: i64,
+    pub suspect: bool,
+    pub next: usize,
+}
+
+// The marks of numbers that were laid, 1 for the first number, 2 for the second, 4 for the third, and so on; where the next line starts.
+pub(crate) struct NumbersLaid {
+    pub marks: u64,
     pub next: usize,
 }
 
@@ -63,33 +72,43 @@ pub(crate) fn status_at(text: &[u8], at: usize) -> WordAt
     }
 }
 
-// The digits at a position, which end before byte 10.
+// The digits at a position, which end before byte 10, or before a mark and byte 10. The first byte is always a digit, so the loop starts behind it. A mark, byte
+// 63, is taken as one digit more, of worth 15, and taken away again: so the loop asks one thing of each byte.
 fn digits_at(text: &[u8], at: usize) -> DigitsAt
-    requires { ⌜ ((n : ℕ) × ((next : ℕ) × DigitsStand (now text) at n next)) ⌝ }
-    ensures { λ r. ⌜ ((n next : ℕ) → DigitsStand (now (text .entry)) at n next → r ≡ record { value = n; next = next }) ⌝ }
+    requires { ⌜ ((n : ℕ) × ((suspect : Bool) × ((next : ℕ) × DigitsStand (now text) at n suspect next))) ⌝ }
+    ensures { λ r. ⌜ ((n : ℕ) (suspect : Bool) (next : ℕ) → DigitsStand (now (text .entry)) at n suspect next → r ≡ record { value = n; suspect = suspect; next = next }) ⌝ }
 {
-    let mut n: u64 = 0;
-    let mut i: usize = 0;
+    let mut n = text[at] as u64 - 48;
+    let mut i: usize = 1;
     while text[at + i] != 10 {
         n = n * 10 + (text[at + i] as u64 - 48);
         i += 1;
     }
+    if text[at + i - 1] == 63 {
+        return DigitsAt {
+            value: (n - 15) / 10,
+            suspect: true,
+            next: at + i + 1,
+        };
+    }
     DigitsAt {
         value: n,
+        suspect: false,
         next: at + i + 1,
     }
 }
 
 // The number at a position, which ends before byte 10. Here a branch is taken: a processor goes on before it has seen whether there is a sign.
 pub(crate) fn number_at(text: &[u8], at: usize) -> NumberAt
-    requires { ⌜ ((z : ℤ) × ((next : ℕ) × NumberStands (now text) at z next)) ⌝ }
-    ensures { λ r. ⌜ ((z : ℤ) (next : ℕ) → NumberStands (now (text .entry)) at z next → r ≡ record { value = z; next = next }) ⌝ }
+    requires { ⌜ ((m : Marked) × ((next : ℕ) × NumberStands (now text) at m next)) ⌝ }
+    ensures { λ r. ⌜ ((m : Marked) (next : ℕ) → NumberStands (now (text .entry)) at m next → r ≡ record { value = m .number; suspect = m .suspect; next = next }) ⌝ }
 {
     if text[at] == 45 {
         let digits = digits_at(text, at + 1);
         let value = digits.value as i64;
         return NumberAt {
             value: -value,
+            suspect: digits.suspect,
             next: digits.next,
         };
     }
@@ -97,23 +116,31 @@ pub(crate) fn number_at(text: &[u8], at: usize) -> NumberAt
     let value = digits.value as i64;
     NumberAt {
         value,
+        suspect: digits.suspect,
         next: digits.next,
     }
 }
 
-// Numbers one after the other, each behind a key of so many bytes, laid in their places; where the next line starts.
-pub(crate) fn lay_numbers(text: &[u8], at: usize, sizes: &[usize], row: &mut [i64]) -> usize
-    requires { ⌜ ((values : List ℤ) × ((next : ℕ) × NumbersStand (now text) at (now sizes) values next)) × (length (now sizes) ≡ length (now row)) ⌝ }
-    ensures { λ r. ⌜ ((values : List ℤ) (next : ℕ) → NumbersStand (now (text .entry)) at (now (sizes .entry)) values next → (r ≡ next) × (now (row .exit) ≡ values)) ⌝ }
+// Numbers one after the other, each behind a key of so many bytes, laid in their places; their marks, and where the next line starts.
+pub(crate) fn lay_numbers(text: &[u8], at: usize, sizes: &[usize], row: &mut [i64]) -> NumbersLaid
+    requires { ⌜ ((values : List Marked) × ((next : ℕ) × NumbersStand (now text) at (now sizes) values next)) × (length (now sizes) ≡ length (now row)) × (length (now sizes) ≤ 8) ⌝ }
+    ensures { λ r.
+        ⌜ ((values : List Marked) (next : ℕ) → NumbersStand (now (text .entry)) at (now (sizes .entry)) values next → (r ≡ record { marks = marksOf values; next = next }) × (now (row .exit) ≡ numbersOf values)) ⌝ }
 {
     let mut next = at;
+    let mut marks: u64 = 0;
+    let mut mark: u64 = 1;
     let mut i: usize = 0;
     while i < sizes.len() {
         let number = number_at(text, next + sizes[i]);
         let value = number.value;
         row[i] = value;
+        if number.suspect {
+            marks += mark;
+        }
+        mark *= 2;
         next = number.next;
         i += 1;
     }
-    next
+    NumbersLaid { marks, next }
 }

@@ -3,27 +3,28 @@ use Prim.Native.Nat.{ℕ, zero, suc, _+_, _≤_, _<_}
 use native.Mathlib.Omega.{arith}
 use mathlib.Core.List.{List, [], _∷_, _++_}
 use mathlib.Core.Path.{_≡_, refl, ap, _∙_}
-use lib.IntN.{ℤ}
+use lib.IntN.{ℤ, natAbs}
 use lib.ListN.{length, take, drop, length-append, length-drop}
 use Rattle.text_refusal.specs.Bytes.{bytes}
+use Rattle.text_number.specs.Marked.{markedBy}
 use Rattle.text_word.specs.Word.{writtenWord}
 use Rattle.text_schema.specs.Schema.{value, keysOf}
 use Rattle.text_schema.specs.Checked.{checkedLine, checkedLines, textOf}
 use Rattle.text_schema.proofs.Checked.{text-first}
-use Rattle.text_writer.specs.Write.{writtenNumbers}
+use Rattle.text_writer.specs.Write.{writtenMarkedLines}
 use Rattle.text_writer.proofs.Writing.{text-line-length}
 use Rattle.pricing_resource_text.specs.Resource.{statusWords, statusField, generatorFields, loadFields}
-use Rattle.pricing_resource_text.proofs.Keys.{generator-keys, controllable-keys, load-keys}
-use Rattle.pricing_held.specs.Rows.{Row, placeOf}
+use Rattle.pricing_resource_text.proofs.Places.{generator-widths, controllable-widths, load-widths}
+use Rattle.pricing_held.specs.Rows.{Row, placeOf, markedNumbers}
 use Rattle.pricing_held.specs.Lines.{linesOfKind}
 use Rattle.pricing_held.specs.internal.Checks.{rowOf}
 use Rattle.pricing_held.proofs.RowLines.{of-generator}
-use Rattle.text_writer.specs.internal.Counted.{numberBytes}
-use Rattle.text_writer.proofs.Counted.{KeyBytes, key-bytes, lines-bytes, first-lines}
+use Rattle.text_writer.specs.internal.Counted.{numberBytes, markBytes}
+use Rattle.text_writer.proofs.Counted.{KeyBytes, key-bytes, marked-lines-bytes, first-marked-lines}
 
 -- ---- which lines
 
-of-load : (kind : ℕ) (row : Row) → 5 ≤ kind → linesOfKind kind row ≡ checkedLines loadFields (row .numbers)
+of-load : (kind : ℕ) (row : Row) → 5 ≤ kind → linesOfKind kind row ≡ checkedLines loadFields (markedNumbers row)
 of-load zero row h = absurd (omega arith)
 of-load (suc zero) row h = absurd (omega arith)
 of-load (suc (suc zero)) row h = absurd (omega arith)
@@ -47,38 +48,45 @@ load-bytes = key-bytes (bytes "rrsok=net=lpc=rrs=") refl refl
 abbrev pub statusText : List ℤ → List ℕ
 statusText values = bytes "status=" ++ (writtenWord statusWords (placeOf (value values 1)) ++ (10 ∷ []))
 
+-- so many numbers behind the kind and the status, with their marks, under their keys
+abbrev pub rowMarks : List ℤ → ℕ
+rowMarks values = natAbs (value values 8)
+
+abbrev pub numbersText : List ℕ → ℕ → List ℤ → List ℕ
+numbersText keys count values = writtenMarkedLines (keysOf keys) (markedBy (rowMarks values) (take count (drop 2 values)))
+
 module _ (kind : ℕ) (values : List ℤ) where
   abbrev text : List ℕ
   text = textOf (linesOfKind kind (rowOf values))
 
   module _ (h : kind < 4) where
-    pub generator-text : text ≡ statusText values ++ writtenNumbers (keysOf (bytes "net=lsl=hsl=base=nonspin=cold30=")) (take 6 (drop 2 values))
+    pub generator-text : text ≡ statusText values ++ numbersText (bytes "net=lsl=hsl=base=nonspin=cold30=") 6 values
     generator-text =
         ap textOf (of-generator (rowOf values) kind h)
-        ∙ text-first (checkedLine statusField (placeOf (value values 1))) (checkedLines generatorFields (take 6 (drop 2 values)))
-        ∙ ap (λ (numbers : List ℕ). statusText values ++ numbers) (first-lines generator-bytes (drop 2 values) generator-keys 6 (omega arith))
+        ∙ text-first (checkedLine statusField (placeOf (value values 1))) (checkedLines generatorFields (markedNumbers (rowOf values)))
+        ∙ ap (λ (numbers : List ℕ). statusText values ++ numbers) (first-marked-lines generator-bytes (drop 2 values) generator-widths (rowMarks values) 6 (omega arith))
 
-    pub generator-length : 8 ≤ length values → length text ≡ 46 + length (writtenWord statusWords (placeOf (value values 1))) + numberBytes (take 6 (drop 2 values))
+    pub generator-length :
+        9 ≤ length values → length text ≡ 46 + length (writtenWord statusWords (placeOf (value values 1))) + numberBytes (take 6 (drop 2 values)) + markBytes 6 (rowMarks values)
     generator-length enough =
-        let numbers = writtenNumbers (keysOf (bytes "net=lsl=hsl=base=nonspin=cold30=")) (take 6 (drop 2 values)) in
         omega (
           arith,
           ap length generator-text,
-          length-append (statusText values) numbers,
+          length-append (statusText values) (numbersText (bytes "net=lsl=hsl=base=nonspin=cold30=") 6 values),
           text-line-length (bytes "status=") (writtenWord statusWords (placeOf (value values 1))),
-          lines-bytes generator-bytes (drop 2 values) (omega (arith, length-drop 2 values)),
+          marked-lines-bytes generator-bytes (drop 2 values) (rowMarks values) (omega (arith, length-drop 2 values)),
         )
 
   module _ (h : kind ≡ 4) where
-    pub controllable-text : text ≡ writtenNumbers (keysOf (bytes "base=lpc=nonspin=regup=")) (take 4 (drop 2 values))
-    controllable-text = rw h (first-lines controllable-bytes (drop 2 values) controllable-keys 6 (omega arith))
+    pub controllable-text : text ≡ numbersText (bytes "base=lpc=nonspin=regup=") 4 values
+    controllable-text = rw h (first-marked-lines controllable-bytes (drop 2 values) controllable-widths (rowMarks values) 6 (omega arith))
 
-    pub controllable-length : 8 ≤ length values → length text ≡ 27 + numberBytes (take 4 (drop 2 values))
-    controllable-length enough = ap length controllable-text ∙ lines-bytes controllable-bytes (drop 2 values) (omega (arith, length-drop 2 values))
+    pub controllable-length : 9 ≤ length values → length text ≡ 27 + numberBytes (take 4 (drop 2 values)) + markBytes 4 (rowMarks values)
+    controllable-length enough = ap length controllable-text ∙ marked-lines-bytes controllable-bytes (drop 2 values) (rowMarks values) (omega (arith, length-drop 2 values))
 
   module _ (h : 5 ≤ kind) where
-    pub load-text : text ≡ writtenNumbers (keysOf (bytes "rrsok=net=lpc=rrs=")) (take 4 (drop 2 values))
-    load-text = ap textOf (of-load kind (rowOf values) h) ∙ first-lines load-bytes (drop 2 values) load-keys 6 (omega arith)
+    pub load-text : text ≡ numbersText (bytes "rrsok=net=lpc=rrs=") 4 values
+    load-text = ap textOf (of-load kind (rowOf values) h) ∙ first-marked-lines load-bytes (drop 2 values) load-widths (rowMarks values) 6 (omega arith)
 
-    pub load-length : 8 ≤ length values → length text ≡ 22 + numberBytes (take 4 (drop 2 values))
-    load-length enough = ap length load-text ∙ lines-bytes load-bytes (drop 2 values) (omega (arith, length-drop 2 values))
+    pub load-length : 9 ≤ length values → length text ≡ 22 + numberBytes (take 4 (drop 2 values)) + markBytes 4 (rowMarks values)
+    load-length enough = ap length load-text ∙ marked-lines-bytes load-bytes (drop 2 values) (rowMarks values) (omega (arith, length-drop 2 values))

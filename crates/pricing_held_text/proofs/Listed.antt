@@ -6,7 +6,7 @@ use mathlib.Core.List.{List, [], _∷_}
 use mathlib.Core.Path.{_≡_, _∙_}
 use borrow.Author.Tests.{leb-true}
 use lib.Dec.{leb}
-use lib.IntN.{ℤ}
+use lib.IntN.{ℤ, natAbs}
 use lib.ListN.{length}
 use mir.Facts.{toZ-ofZ}
 use mir.Syntax.{w64}
@@ -44,3 +44,7 @@ word-short most words all index = rw (written-listed words index) (go words inde
 -- the place that a number of a row says, as the machine reads it
 pub place-is : (z : ℤ) {place : ℕ} → SFits w64 z → place ≡ placeOf (toZ w64 (ofZ w64 z)) → place ≡ placeOf z
 place-is z fits is = is ∙ rw (toZ-ofZ fits)
+
+-- and its marks
+pub marks-are : (z : ℤ) {marks : ℕ} → SFits w64 z → marks ≡ natAbs (toZ w64 (ofZ w64 z)) → marks ≡ natAbs z
+marks-are z fits is = is ∙ rw (toZ-ofZ fits)

@@ -5,7 +5,7 @@ use native.Mathlib.Numerals.{add-one}
 use native.Mathlib.Omega.{arith}
 use mathlib.Core.List.{List, [], _∷_, _++_, append-assoc, append-nil}
 use mathlib.Core.Path.{_≡_, refl, sym, ap, ap₂, _∙_}
-use lib.IntN.{ℤ, pos}
+use lib.IntN.{ℤ, pos, natAbs}
 use lib.ListN.{length, take, drop, length-append, length-drop}
 use lib.Seq.{getD-drop, drop-drop, take-all}
 use Rattle.text_refusal.specs.Bytes.{bytes}
@@ -59,9 +59,10 @@ module _ (ids : List ℕ) (numbers : List ℤ) (i : ℕ) where
       ∙ ap (λ (rest : List ℕ). bytes "id=" ++ (row .id ++ (10 ∷ [])) ++ rest) (text-first (checkedLine kindField (row .kind)) (linesOfKind (row .kind) row))
       ∙ rw (row-at-is ids numbers i)
       (ap (λ (lines : List CheckedLine). idText ++ (kindText ++ textOf lines))
-      (lines-alike kindAt (record { id = idAt 0 ids (32 * i); kind = kindAt; status = placeOf (value numbers (9 * i + 1)); numbers = take 6 (drop (9 * i + 2) numbers) }) (rowOf (drop (9 * i) numbers))
+      (lines-alike kindAt (record { id = idAt 0 ids (32 * i); kind = kindAt; status = placeOf (value numbers (9 * i + 1)); numbers = take 6 (drop (9 * i + 2) numbers); marks = natAbs (value numbers (9 * i + 8)) }) (rowOf (drop (9 * i) numbers))
       (rw (getD-drop (9 * i) numbers 1 (pos 0)))
-      (rw (drop-drop 2 (9 * i) numbers))))
+      (rw (drop-drop 2 (9 * i) numbers))
+      (rw (getD-drop (9 * i) numbers 8 (pos 0)))))
 
   pub row-length : length (rowText (rowAt ids numbers i)) ≡ 10 + length (idAt 0 ids (32 * i)) + length (writtenWord kindWords kindAt) + length valuesText
   row-length =

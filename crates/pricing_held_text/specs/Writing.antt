@@ -1,5 +1,5 @@
--- Document 02, W-204: the text of a snapshot held as values, its length before it is written, and writing it into a lent buffer: 6, 7 and 8 as its lines say, then 14
--- for a buffer that is shorter than the text. Bytes after the text stay, and a refused write leaves the buffer.
+-- Document 02, W-204: the text of a snapshot held as values, its length before it is written, and writing it into a lent buffer: 6, 7 and 8 as its lines say, then 15
+-- (W-206), then 14 for a buffer that is shorter than the text. Bytes after the text stay, and a refused write leaves the buffer.
 use Prim.Native.Nat.{ℕ}
 use mathlib.Core.Path.{_≡_}
 use mathlib.Core.Bool.{cond}
@@ -24,7 +24,7 @@ lengthOr length (answer.Refused found) = held-text.Refused found
 unfoldable pub heldLength : List ℤ → List ℕ → List ℤ → HeldText
 heldLength header ids numbers = lengthOr (length (heldText header ids numbers)) (heldAnswer header ids numbers)
 
--- the first refused line, then 14
+-- the first refused line, then 15, then 14
 unfoldable pub writingHeld : List ℤ → List ℕ → List ℤ → List ℕ → Answer
 writingHeld header ids numbers buffer =
     followedBy (heldAnswer header ids numbers) (cond (leb (length (heldText header ids numbers)) (length buffer)) answer.Accepted (refusal 14 0))

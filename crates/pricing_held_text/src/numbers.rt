@@ -6,13 +6,14 @@ ghost use Rattle.text_schema.specs.Checked.{textOf};
 ghost use Rattle.text_writer.specs.Write.{TextLaid};
 ghost use Rattle.pricing_held.specs.Lines.{linesOfKind};
 ghost use Rattle.pricing_held.specs.internal.Checks.{rowOf};
-ghost use Rattle.text_writer.specs.internal.Counted.{numberBytes};
+ghost use Rattle.text_writer.specs.internal.Counted.{numberBytes, markBytes};
 use crate::next_of;
 use crate::words::put_status;
 use crate::words::status_length;
+use integer::magnitude;
 use pricing_held::place_of;
+use text_writer::marked::write_marked_lines;
 use text_writer::number_length;
-use text_writer::write_lines;
 
 // How many bytes some numbers have as they are written, of which there are few.
 pub(crate) fn numbers_length(values: &[i64]) -> usize
@@ -28,47 +29,82 @@ pub(crate) fn numbers_length(values: &[i64]) -> usize
     total
 }
 
+// How many bytes the marks of so many numbers have, one for each mark. Where no mark is left, none is looked for.
+fn marks_length(mut marks: u64, count: usize) -> usize
+    requires { ⌜ count ≤ 8 ⌝ }
+    ensures { λ r. ⌜ (r ≡ markBytes count marks) × (r ≤ count) ⌝ }
+{
+    let mut total: usize = 0;
+    let mut i: usize = 0;
+    while 0 < marks {
+        if count <= i {
+            return total;
+        }
+        total += (marks % 2) as usize;
+        marks = marks / 2;
+        i += 1;
+    }
+    total
+}
+
 // How many bytes the lines of a row after its kind have; `values` begins with the row. 46, 27 and 22 are the bytes of the keys and of byte 10 in each line.
 pub(crate) fn values_length(values: &[i64], kind: usize) -> usize
-    requires { ⌜ 8 ≤ length (now values) ⌝ }
-    ensures { λ r. ⌜ (r ≡ length (textOf (linesOfKind kind (rowOf (now (values .entry)))))) × (r ≤ 174) ⌝ }
+    requires { ⌜ 9 ≤ length (now values) ⌝ }
+    ensures { λ r. ⌜ (r ≡ length (textOf (linesOfKind kind (rowOf (now (values .entry)))))) × (r ≤ 180) ⌝ }
 {
+    let marks = magnitude(values[8]);
     if kind < 4 {
-        return 46 + status_length(place_of(values[1])) + numbers_length(&values[2..8]);
+        return 46
+            + status_length(place_of(values[1]))
+            + numbers_length(&values[2..8])
+            + marks_length(marks, 6);
     }
     if kind == 4 {
-        return 27 + numbers_length(&values[2..6]);
+        return 27 + numbers_length(&values[2..6]) + marks_length(marks, 4);
     }
-    22 + numbers_length(&values[2..6])
+    22 + numbers_length(&values[2..6]) + marks_length(marks, 4)
 }
 
 // The lines of a generator after its kind; where the next line starts.
 fn put_generator(buffer: &mut [u8], at: usize, values: &[i64]) -> usize
-    requires { ⌜ (8 ≤ length (now values)) × (at + length (textOf (linesOfKind 0 (rowOf (now values)))) ≤ length (now buffer)) ⌝ }
+    requires { ⌜ (9 ≤ length (now values)) × (at + length (textOf (linesOfKind 0 (rowOf (now values)))) ≤ length (now buffer)) ⌝ }
     ensures { λ r. ⌜ TextLaid (textOf (linesOfKind 0 (rowOf (now (values .entry))))) (now (buffer .entry)) at (now (buffer .exit)) r ⌝ }
 {
     let next = next_of(put_status(buffer, at, place_of(values[1])), at);
-    let ended = write_lines(
+    let ended = write_marked_lines(
         buffer,
         next,
         b"net=lsl=hsl=base=nonspin=cold30=",
         &values[2..8],
+        magnitude(values[8]),
     );
     next_of(ended, next)
 }
 
 // The lines of a row after its kind; where the next line starts.
 pub(crate) fn put_values(buffer: &mut [u8], at: usize, values: &[i64], kind: usize) -> usize
-    requires { ⌜ (8 ≤ length (now values)) × (at + length (textOf (linesOfKind kind (rowOf (now values)))) ≤ length (now buffer)) ⌝ }
+    requires { ⌜ (9 ≤ length (now values)) × (at + length (textOf (linesOfKind kind (rowOf (now values)))) ≤ length (now buffer)) ⌝ }
     ensures { λ r. ⌜ TextLaid (textOf (linesOfKind kind (rowOf (now (values .entry))))) (now (buffer .entry)) at (now (buffer .exit)) r ⌝ }
 {
     if kind < 4 {
         return put_generator(buffer, at, values);
     }
     if kind == 4 {
-        let ended = write_lines(buffer, at, b"base=lpc=nonspin=regup=", &values[2..6]);
+        let ended = write_marked_lines(
+            buffer,
+            at,
+            b"base=lpc=nonspin=regup=",
+            &values[2..6],
+            magnitude(values[8]),
+        );
         return next_of(ended, at);
     }
-    let ended = write_lines(buffer, at, b"rrsok=net=lpc=rrs=", &values[2..6]);
+    let ended = write_marked_lines(
+        buffer,
+        at,
+        b"rrsok=net=lpc=rrs=",
+        &values[2..6],
+        magnitude(values[8]),
+    );
     next_of(ended, at)
 }

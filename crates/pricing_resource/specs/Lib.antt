@@ -2,4 +2,5 @@
 pub mod Flag
 pub mod Offline
 pub mod Online
+pub mod Suspect
 pub mod internal

@@ -1,6 +1,7 @@
 // One resource of a snapshot: its kind and its fields.
 pub mod offline;
 pub mod online;
+pub mod suspect;
 
 // The kinds of generator: other intermittent units are Irr.
 pub enum Kind {
@@ -20,7 +21,8 @@ pub enum Status {
     Out,
 }
 
-// Power in kW; cold30 is a flag, 0 or 1.
+// Power in kW; cold30 is a flag, 0 or 1. In each kind of resource `marks` says which of its numbers are marked suspect, in the order of its lines: 1 for the first,
+// 2 for the second, 4 for the third, and so on.
 pub struct Generator {
     pub kind: Kind,
     pub status: Status,
@@ -30,6 +32,7 @@ pub struct Generator {
     pub base: i32,
     pub nonspin: i32,
     pub cold30: i32,
+    pub marks: u64,
 }
 
 // A controllable load resource, in kW.
@@ -38,6 +41,7 @@ pub struct Controllable {
     pub lpc: i32,
     pub nonspin: i32,
     pub regup: i32,
+    pub marks: u64,
 }
 
 // Another load resource, in kW; rrsok is a flag, 0 or 1.
@@ -46,6 +50,7 @@ pub struct Load {
     pub net: i32,
     pub lpc: i32,
     pub rrs: i32,
+    pub marks: u64,
 }
 
 pub enum Resource {

@@ -5,7 +5,7 @@ use crate::Generator;
 use crate::Kind;
 use crate::Status;
 
-fn is_gen_or_wind(kind: Kind) -> bool
+pub(crate) fn is_gen_or_wind(kind: Kind) -> bool
     ensures { λ r. ⌜ r ≡ isGenOrWind kind ⌝ }
 {
     match kind {

@@ -5,4 +5,4 @@ pub mod Lines
 pub mod Making
 pub mod Numbered
 pub mod Places
-pub mod Keys
+pub mod Marking

@@ -1,73 +1,116 @@
 -- Laws on the lines of a resource: lines that were read into places, and what the readers' answers come to.
 use Prim.Native.Nat.{ℕ}
-use mathlib.Core.Path.{_≡_, refl}
+use mathlib.Core.Path.{_≡_, refl, ap}
 use mathlib.Core.List.{List, [], _∷_, _++_}
-use lib.IntN.{ℤ, pos, negℤ}
+use lib.IntN.{pos, negℤ}
 use lib.ListN.{length, replicate}
+use native.Mathlib.Omega.{arith}
 use Rattle.text_refusal.specs.Bytes.{bytes}
 use Rattle.text_refusal.specs.declared.refusal.Fault.{Fault}
+use Rattle.text_line.proofs.LineBytes.{one-line}
 use Rattle.text_line.specs.Field.{Field, LineAnswer, got, refused}
-use Rattle.text_schema.specs.Schema.{readFields, LinesRead}
-use Rattle.text_schema.proofs.Fields.{Schema, schema-of, schemaFields, places, lines-ended, lines-filled, lines-laid}
-use Rattle.text_line.specs.declared.Lines.{Lines}
-use Rattle.text_line.specs.declared.Lines.the-variants as lines
-use Rattle.pricing_resource_text.specs.Resource.{generatorFields, controllableFields, loadFields, linesAs, ofLines, afterAnswer}
-use Rattle.pricing_resource_text.proofs.Small.{EachSmall, AllSmall, values-small, laid-small}
+use Rattle.text_schema.proofs.Fields.{keys-computed}
+use Rattle.text_number.specs.Marked.{Marked, markedField}
+use Rattle.text_schema.specs.Schema.{keysOf}
+use Rattle.text_schema.proofs.Marks.{EachMarked, no-marked, one-marked, LinesWithMarks, no-line, marked-one, unmarked-one}
+use Rattle.pricing_resource_text.specs.internal.Marks.{fieldsOf, FewLines}
+use Rattle.pricing_resource_text.specs.Resource.{resourcePower, flag, generatorFields, controllableFields, loadFields, afterAnswer}
 
--- ---- schemas as the code hands them over
+-- ---- the lines of each kind
 
-unfoldable pub generatorSchema : Schema generatorFields
+-- a flag, and the lines that may be marked
+abbrev pub generatorMarked : List (Field Marked)
+generatorMarked =
+    markedField (bytes "net=") (negℤ (pos 2000000)) (pos 2000000)
+    ∷ resourcePower (bytes "lsl=")
+    ∷ resourcePower (bytes "hsl=")
+    ∷ resourcePower (bytes "base=")
+    ∷ resourcePower (bytes "nonspin=")
+    ∷ []
+
+abbrev pub loadMarked : List (Field Marked)
+loadMarked = resourcePower (bytes "net=") ∷ resourcePower (bytes "lpc=") ∷ resourcePower (bytes "rrs=") ∷ []
+
+pub generator-parts : generatorFields ≡ generatorMarked ++ (flag (bytes "cold30=") ∷ [])
 unfolding generatorFields
-generatorSchema = schema-of (bytes "net=lsl=hsl=base=nonspin=cold30=") (negℤ (pos 2000000) ∷ replicate 5 (pos 0)) (replicate 5 (pos 2000000) ++ (pos 1 ∷ [])) refl
+generator-parts = refl
 
-unfoldable pub controllableSchema : Schema controllableFields
-unfolding controllableFields
-controllableSchema = schema-of (bytes "base=lpc=nonspin=regup=") (replicate 4 (pos 0)) (replicate 4 (pos 2000000)) refl
-
-unfoldable pub loadSchema : Schema loadFields
+pub load-parts : loadFields ≡ flag (bytes "rrsok=") ∷ loadMarked
 unfolding loadFields
-loadSchema = schema-of (bytes "rrsok=net=lpc=rrs=") (replicate 4 (pos 0)) (pos 1 ∷ replicate 3 (pos 2000000)) refl
+load-parts = refl
 
--- the same, written out
-pub generator-computed : generatorFields ≡ schemaFields (bytes "net=lsl=hsl=base=nonspin=cold30=") (negℤ (pos 2000000) ∷ replicate 5 (pos 0)) (replicate 5 (pos 2000000) ++ (pos 1 ∷ []))
+pub controllable-parts : controllableFields ≡ resourcePower (bytes "base=") ∷ resourcePower (bytes "lpc=") ∷ resourcePower (bytes "nonspin=") ∷ resourcePower (bytes "regup=") ∷ []
+unfolding controllableFields
+controllable-parts = refl
+
+pub generator-marked : EachMarked generatorMarked (negℤ (pos 2000000) ∷ replicate 4 (pos 0)) (replicate 5 (pos 2000000))
+generator-marked = one-marked (one-marked (one-marked (one-marked (one-marked no-marked))))
+
+pub controllable-marked : EachMarked controllableFields (replicate 4 (pos 0)) (replicate 4 (pos 2000000))
+unfolding controllableFields
+controllable-marked = one-marked (one-marked (one-marked (one-marked no-marked)))
+
+pub load-marked : EachMarked loadMarked (replicate 3 (pos 0)) (replicate 3 (pos 2000000))
+load-marked = one-marked (one-marked (one-marked no-marked))
+
+-- each under a key of one line
+pub generator-with-marks : LinesWithMarks generatorFields
 unfolding generatorFields
-generator-computed = refl
+generator-with-marks =
+    marked-one (negℤ (pos 2000000)) (pos 2000000) (one-line (bytes "net=") refl)
+    (marked-one (pos 0) (pos 2000000) (one-line (bytes "lsl=") refl)
+    (marked-one (pos 0) (pos 2000000) (one-line (bytes "hsl=") refl)
+    (marked-one (pos 0) (pos 2000000) (one-line (bytes "base=") refl)
+    (marked-one (pos 0) (pos 2000000) (one-line (bytes "nonspin=") refl)
+    (unmarked-one (pos 0) (pos 1) (one-line (bytes "cold30=") refl) no-line)))))
 
-pub controllable-computed : controllableFields ≡ schemaFields (bytes "base=lpc=nonspin=regup=") (replicate 4 (pos 0)) (replicate 4 (pos 2000000))
+pub controllable-with-marks : LinesWithMarks controllableFields
 unfolding controllableFields
-controllable-computed = refl
+controllable-with-marks =
+    marked-one (pos 0) (pos 2000000) (one-line (bytes "base=") refl)
+    (marked-one (pos 0) (pos 2000000) (one-line (bytes "lpc=") refl) (marked-one (pos 0) (pos 2000000) (one-line (bytes "nonspin=") refl) (marked-one (pos 0) (pos 2000000) (one-line (bytes "regup=") refl) no-line)))
 
-pub load-computed : loadFields ≡ schemaFields (bytes "rrsok=net=lpc=rrs=") (replicate 4 (pos 0)) (pos 1 ∷ replicate 3 (pos 2000000))
+pub load-with-marks : LinesWithMarks loadFields
 unfolding loadFields
-load-computed = refl
+load-with-marks =
+    unmarked-one (pos 0) (pos 1) (one-line (bytes "rrsok=") refl)
+    (marked-one (pos 0) (pos 2000000) (one-line (bytes "net=") refl) (marked-one (pos 0) (pos 2000000) (one-line (bytes "lpc=") refl) (marked-one (pos 0) (pos 2000000) (one-line (bytes "rrs=") refl) no-line)))
 
--- ---- lines read by a schema
+-- how many they are
+pub generator-long : length generatorFields ≡ 6
+unfolding generatorFields
+generator-long = refl
 
-module _
-    {fields : List (Field ℤ)} (schema : Schema fields) (text : List ℕ) (at : ℕ) {after : List ℤ} {ended : Lines}
-    (read : LinesRead text at (schema .keys) (schema .lows) (schema .highs) (places fields) after ended) where
-  -- a resource made of its places, if its lines were read
-  pub lines-made : {A : Type 0} (make : List ℤ → A) {one : A} → one ≡ make after → ofLines (λ v. one) [] ended ≡ linesAs make fields text at
-  lines-made {A} make {one} is = go ended refl
-    where
-      go : (b : Lines) → ended ≡ b → ofLines (λ v. one) [] b ≡ linesAs make fields text at
-      go (lines.Read next) told = rw (is, lines-filled schema text at read told, ← lines-ended schema text at read, told)
-      go (lines.Refused found) told = rw (← lines-ended schema text at read, told)
+pub controllable-long : length controllableFields ≡ 4
+unfolding controllableFields
+controllable-long = refl
 
-  -- no place holds a number beyond the bound, whether or not a line was refused
-  pub lines-small : EachSmall fields → AllSmall after
-  lines-small small =
-      rw (lines-laid schema text at read)
-      (laid-small (readFields fields text at .values) (length fields) (length (readFields fields text at .values)) (values-small fields small text at))
+pub load-long : length loadFields ≡ 4
+unfolding loadFields
+load-long = refl
 
--- ---- the lines of a resource, if they were read
+-- ---- the lines of each kind by keys and bounds, as the code hands them over
 
-module _ {A : Type 0} (one : A) {b : Lines} where
-  pub lines-refused : {found : Fault} → b ≡ lines.Refused found → refused found ≡ ofLines (λ v. one) [] b
-  lines-refused told = rw told
+pub generator-few : FewLines (bytes "net=lsl=hsl=base=nonspin=cold30=") (negℤ (pos 2000000) ∷ replicate 5 (pos 0)) (replicate 5 (pos 2000000) ++ (pos 1 ∷ [])) (replicate 6 (pos 0))
+generator-few = record { keys-are = ap length (keys-computed (bytes "net=lsl=hsl=base=nonspin=cold30=")); lows-are = refl; highs-are = refl; few = omega arith }
 
-  pub lines-read : {next : ℕ} → b ≡ lines.Read next → got one next ≡ ofLines (λ v. one) [] b
-  lines-read told = rw told
+pub controllable-few : FewLines (bytes "base=lpc=nonspin=regup=") (replicate 4 (pos 0)) (replicate 4 (pos 2000000)) (replicate 4 (pos 0))
+controllable-few = record { keys-are = ap length (keys-computed (bytes "base=lpc=nonspin=regup=")); lows-are = refl; highs-are = refl; few = omega arith }
+
+pub load-few : FewLines (bytes "rrsok=net=lpc=rrs=") (replicate 4 (pos 0)) (pos 1 ∷ replicate 3 (pos 2000000)) (replicate 4 (pos 0))
+load-few = record { keys-are = ap length (keys-computed (bytes "rrsok=net=lpc=rrs=")); lows-are = refl; highs-are = refl; few = omega arith }
+
+pub generator-is : fieldsOf 5 0 (keysOf (bytes "net=lsl=hsl=base=nonspin=cold30=")) (negℤ (pos 2000000) ∷ replicate 5 (pos 0)) (replicate 5 (pos 2000000) ++ (pos 1 ∷ [])) ≡ generatorFields
+unfolding fieldsOf generatorFields
+generator-is = rw (keys-computed (bytes "net=lsl=hsl=base=nonspin=cold30=")) refl
+
+pub controllable-is : fieldsOf 4 0 (keysOf (bytes "base=lpc=nonspin=regup=")) (replicate 4 (pos 0)) (replicate 4 (pos 2000000)) ≡ controllableFields
+unfolding fieldsOf controllableFields
+controllable-is = rw (keys-computed (bytes "base=lpc=nonspin=regup=")) refl
+
+pub load-is : fieldsOf 0 0 (keysOf (bytes "rrsok=net=lpc=rrs=")) (replicate 4 (pos 0)) (pos 1 ∷ replicate 3 (pos 2000000)) ≡ loadFields
+unfolding fieldsOf loadFields
+load-is = rw (keys-computed (bytes "rrsok=net=lpc=rrs=")) refl
 
 -- ---- a line, and what follows it
 

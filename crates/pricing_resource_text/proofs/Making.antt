@@ -1,5 +1,5 @@
 -- A resource made of numbers of half the width.
-use Prim.Native.Nat.{_<_, _^_}
+use Prim.Native.Nat.{ℕ, _<_, _^_}
 use mathlib.Core.Path.{_≡_, _∙_}
 use lib.IntN.{ℤ}
 use lib.Signed.{mag}
@@ -16,16 +16,16 @@ pub number-is : {r z : ℤ} → mag r < 2 ^ hbits w32 → r ≡ z → toZ w32 (o
 number-is fits is = toZ-ofZ (sfits-of fits) ∙ is
 
 pub generator-same :
-    (kind : Kind) (status : Status) {net lsl hsl base nonspin cold30 net′ lsl′ hsl′ base′ nonspin′ cold30′ : ℤ} → net ≡ net′ → lsl ≡ lsl′ → hsl ≡ hsl′ → base ≡ base′ → nonspin ≡ nonspin′ → cold30 ≡ cold30′ →
-    resource.Generator (record { kind = kind; status = status; net = net; lsl = lsl; hsl = hsl; base = base; nonspin = nonspin; cold30 = cold30 }) ≡ resource.Generator (record { kind = kind; status = status; net = net′; lsl = lsl′; hsl = hsl′; base = base′; nonspin = nonspin′; cold30 = cold30′ })
-generator-same kind status p q r s t u = rw (p, q, r, s, t, u)
+    (kind : Kind) (status : Status) (marks : ℕ) {net lsl hsl base nonspin cold30 net′ lsl′ hsl′ base′ nonspin′ cold30′ : ℤ} → net ≡ net′ → lsl ≡ lsl′ → hsl ≡ hsl′ → base ≡ base′ → nonspin ≡ nonspin′ → cold30 ≡ cold30′ →
+    resource.Generator (record { kind = kind; status = status; net = net; lsl = lsl; hsl = hsl; base = base; nonspin = nonspin; cold30 = cold30; marks = marks }) ≡ resource.Generator (record { kind = kind; status = status; net = net′; lsl = lsl′; hsl = hsl′; base = base′; nonspin = nonspin′; cold30 = cold30′; marks = marks })
+generator-same kind status marks p q r s t u = rw (p, q, r, s, t, u)
 
 pub controllable-same :
-    {base lpc nonspin regup base′ lpc′ nonspin′ regup′ : ℤ} → base ≡ base′ → lpc ≡ lpc′ → nonspin ≡ nonspin′ → regup ≡ regup′ →
-    resource.Controllable (record { base = base; lpc = lpc; nonspin = nonspin; regup = regup }) ≡ resource.Controllable (record { base = base′; lpc = lpc′; nonspin = nonspin′; regup = regup′ })
-controllable-same p q r s = rw (p, q, r, s)
+    (marks : ℕ) {base lpc nonspin regup base′ lpc′ nonspin′ regup′ : ℤ} → base ≡ base′ → lpc ≡ lpc′ → nonspin ≡ nonspin′ → regup ≡ regup′ →
+    resource.Controllable (record { base = base; lpc = lpc; nonspin = nonspin; regup = regup; marks = marks }) ≡ resource.Controllable (record { base = base′; lpc = lpc′; nonspin = nonspin′; regup = regup′; marks = marks })
+controllable-same marks p q r s = rw (p, q, r, s)
 
 pub load-same :
-    {rrsok net lpc rrs rrsok′ net′ lpc′ rrs′ : ℤ} → rrsok ≡ rrsok′ → net ≡ net′ → lpc ≡ lpc′ → rrs ≡ rrs′ →
-    resource.Load (record { rrsok = rrsok; net = net; lpc = lpc; rrs = rrs }) ≡ resource.Load (record { rrsok = rrsok′; net = net′; lpc = lpc′; rrs = rrs′ })
-load-same p q r s = rw (p, q, r, s)
+    (marks : ℕ) {rrsok net lpc rrs rrsok′ net′ lpc′ rrs′ : ℤ} → rrsok ≡ rrsok′ → net ≡ net′ → lpc ≡ lpc′ → rrs ≡ rrs′ →
+    resource.Load (record { rrsok = rrsok; net = net; lpc = lpc; rrs = rrs; marks = marks }) ≡ resource.Load (record { rrsok = rrsok′; net = net′; lpc = lpc′; rrs = rrs′; marks = marks })
+load-same marks p q r s = rw (p, q, r, s)

@@ -1,19 +1,22 @@
 -- Kinds and statuses by their places in the lists of words, as they are written: one in its list is not refused, one outside it is refused by 6. The lines of each
--- kind are lines of numbers.
+-- kind: their keys and how long they are.
 use Prim.Native.Nat.{ℕ, _+_, _≤_, _<_}
 use mathlib.Core.Bool.{true}
-use mathlib.Core.List.{List, [], _∷_, _++_}
+use mathlib.Core.List.{List, _∷_}
 use mathlib.Core.Path.{_≡_, refl}
 use lib.Dec.{lit<}
-use lib.IntN.{ℤ, pos, negℤ}
-use lib.ListN.{length, replicate}
+use lib.IntN.{pos, negℤ}
+use lib.ListN.{length}
 use Rattle.text_refusal.specs.Bytes.{bytes}
 use Rattle.text_line.specs.Field.{Field}
-use Rattle.text_line.proofs.LineBytes.{one-line}
+use Rattle.text_number.specs.Marked.{Marked}
 use Rattle.text_word.specs.Word.{wordField}
 use Rattle.text_word.proofs.Words.{noneEmpty, empty-unknown, word-past, distinct, word-itself}
+use Rattle.text_schema.specs.Schema.{keysOf}
 use Rattle.text_schema.specs.Checked.{checkedLine}
-use Rattle.text_schema.proofs.Checked.{NumberLines, no-lines, one-more, Wide, no-width, one-width, natural-wide, signed-wide}
+use Rattle.text_schema.proofs.Checked.{natural-wide, signed-wide}
+use Rattle.text_schema.proofs.Fields.{keys-computed}
+use Rattle.text_schema.proofs.MarkedWidths.{MarkedWidths, no-widths, marked-width, unmarked-width}
 use Rattle.pricing_resource_text.specs.Resource.{kindWords, kindField, statusWords, statusField, resourcePower, flag, generatorFields, controllableFields, loadFields}
 
 -- ---- words
@@ -37,47 +40,25 @@ status-known = listed (bytes "status=") statusWords refl
 pub status-unknown : (s : ℕ) → 7 ≤ s → checkedLine statusField s .number ≡ 6
 status-unknown = unlisted (bytes "status=") statusWords refl
 
--- ---- numbers
-
-pub generator-lines : NumberLines generatorFields (negℤ (pos 2000000) ∷ replicate 5 (pos 0)) (replicate 5 (pos 2000000) ++ (pos 1 ∷ []))
-unfolding generatorFields
-generator-lines =
-    one-more (one-line (bytes "net=") refl)
-    (one-more (one-line (bytes "lsl=") refl)
-    (one-more (one-line (bytes "hsl=") refl)
-    (one-more (one-line (bytes "base=") refl)
-    (one-more (one-line (bytes "nonspin=") refl)
-    (one-more (one-line (bytes "cold30=") refl) no-lines)))))
-
-pub controllable-lines : NumberLines controllableFields (replicate 4 (pos 0)) (replicate 4 (pos 2000000))
-unfolding controllableFields
-controllable-lines =
-    one-more (one-line (bytes "base=") refl)
-    (one-more (one-line (bytes "lpc=") refl) (one-more (one-line (bytes "nonspin=") refl) (one-more (one-line (bytes "regup=") refl) no-lines)))
-
-pub load-lines : NumberLines loadFields (replicate 4 (pos 0)) (pos 1 ∷ replicate 3 (pos 2000000))
-unfolding loadFields
-load-lines =
-    one-more (one-line (bytes "rrsok=") refl)
-    (one-more (one-line (bytes "net=") refl) (one-more (one-line (bytes "lpc=") refl) (one-more (one-line (bytes "rrs=") refl) no-lines)))
-
--- ---- how long they are
+-- ---- the lines with marks: their keys, and how long they are
 
 -- a power field and a flag before other lines
-power : {key : List ℕ} {bytes : ℕ} {fields : List (Field ℤ)} → Wide fields bytes → Wide (resourcePower key ∷ fields) (length key + 7 + 1 + bytes)
-power = one-width (pos 0) (pos 2000000) (natural-wide 6 2000000 (lit< tt))
+power : {key : List ℕ} {bytes : ℕ} {fields : List (Field Marked)} {keys : List (List ℕ)} → MarkedWidths fields keys bytes → MarkedWidths (resourcePower key ∷ fields) (key ∷ keys) (length key + 7 + 2 + bytes)
+power = marked-width (pos 0) (pos 2000000) (natural-wide 6 2000000 (lit< tt))
 
-of-flag : {key : List ℕ} {bytes : ℕ} {fields : List (Field ℤ)} → Wide fields bytes → Wide (flag key ∷ fields) (length key + 1 + 1 + bytes)
-of-flag = one-width (pos 0) (pos 1) (natural-wide 0 1 (lit< tt))
+of-flag : {key : List ℕ} {bytes : ℕ} {fields : List (Field Marked)} {keys : List (List ℕ)} → MarkedWidths fields keys bytes → MarkedWidths (flag key ∷ fields) (key ∷ keys) (length key + 1 + 1 + bytes)
+of-flag = unmarked-width (pos 0) (pos 1) (natural-wide 0 1 (lit< tt))
 
-pub generator-wide : Wide generatorFields 75
+pub generator-widths : MarkedWidths generatorFields (keysOf (bytes "net=lsl=hsl=base=nonspin=cold30=")) 80
 unfolding generatorFields
-generator-wide = one-width (negℤ (pos 2000000)) (pos 2000000) (signed-wide 6 2000000 (lit< tt)) (power (power (power (power (of-flag no-width)))))
+generator-widths =
+    rw (keys-computed (bytes "net=lsl=hsl=base=nonspin=cold30="))
+    (marked-width (negℤ (pos 2000000)) (pos 2000000) (signed-wide 6 2000000 (lit< tt)) (power (power (power (power (of-flag no-widths))))))
 
-pub controllable-wide : Wide controllableFields 55
+pub controllable-widths : MarkedWidths controllableFields (keysOf (bytes "base=lpc=nonspin=regup=")) 59
 unfolding controllableFields
-controllable-wide = power (power (power (power no-width)))
+controllable-widths = rw (keys-computed (bytes "base=lpc=nonspin=regup=")) (power (power (power (power no-widths))))
 
-pub load-wide : Wide loadFields 44
+pub load-widths : MarkedWidths loadFields (keysOf (bytes "rrsok=net=lpc=rrs=")) 47
 unfolding loadFields
-load-wide = of-flag (power (power (power no-width)))
+load-widths = rw (keys-computed (bytes "rrsok=net=lpc=rrs=")) (of-flag (power (power (power no-widths))))

@@ -1,48 +1,43 @@
 // The lines of each kind of resource, after its kind.
 ghost use mathlib.Core.Path.{_≡_};
-ghost use mathlib.Core.List.{[]};
-ghost use Rattle.pricing_resource_text.specs.Resource.{generatorOf, controllableOf, loadOf, generatorFields, controllableFields, loadFields, generatorAt, linesAs, ofLines, linesAnswer};
+ghost use Rattle.pricing_resource_text.specs.Resource.{generatorOf, controllableOf, loadOf, withMarks, generatorFields, controllableFields, loadFields, generatorAt, linesAs, linesAnswer};
 use crate::ResourceLines;
 use crate::made::controllable_of;
 use crate::made::generator_of;
 use crate::made::load_of;
 use crate::made::status_of;
+use crate::marks::MarkedLines;
+use crate::marks::read_numbers;
 use crate::words::status_word;
 use pricing_resource::Kind;
-use pricing_resource::Resource;
 use pricing_resource::Status;
-use text_line::Lines;
 use text_line::line::line_value;
 use text_line::line::value_fault;
-use text_schema::read_lines;
 use text_word::Word;
-
-// The resource, if its lines were read.
-fn lines_of(b: Lines, resource: Resource) -> ResourceLines
-    ensures { λ r. ⌜ linesAnswer r ≡ ofLines (λ v. resource) [] b ⌝ }
-{
-    match b {
-        Lines::Refused(fault) => ResourceLines::Refused(fault),
-        Lines::Read { next } => ResourceLines::Read { resource, next },
-    }
-}
 
 // The lines of a generator after its status.
 fn generator_lines(text: &[u8], at: usize, kind: Kind, status: Status) -> ResourceLines
-    ensures { λ r. ⌜ linesAnswer r ≡ linesAs (generatorOf kind status) generatorFields (now (text .entry)) at ⌝ }
+    ensures { λ r. ⌜ linesAnswer r ≡ linesAs (withMarks (generatorOf kind status)) generatorFields (now (text .entry)) at ⌝ }
 {
     let lows = [-2000000, 0, 0, 0, 0, 0];
     let highs = [2000000, 2000000, 2000000, 2000000, 2000000, 1];
     let mut v = [0i64; 6];
-    let b = read_lines(
+    let b = read_numbers(
         text,
         at,
         b"net=lsl=hsl=base=nonspin=cold30=",
         &lows,
         &highs,
+        5,
         &mut v,
     );
-    lines_of(b, generator_of(kind, status, &v))
+    match b {
+        MarkedLines::Refused(fault) => ResourceLines::Refused(fault),
+        MarkedLines::Read { marks, next } => ResourceLines::Read {
+            resource: generator_of(kind, status, marks, &v),
+            next,
+        },
+    }
 }
 
 // The lines of a generator after its kind.
@@ -59,22 +54,42 @@ pub(crate) fn generator_at(text: &[u8], at: usize, kind: Kind) -> ResourceLines
 
 // The lines of a controllable load after its kind.
 pub(crate) fn controllable_at(text: &[u8], at: usize) -> ResourceLines
-    ensures { λ r. ⌜ linesAnswer r ≡ linesAs controllableOf controllableFields (now (text .entry)) at ⌝ }
+    ensures { λ r. ⌜ linesAnswer r ≡ linesAs (withMarks controllableOf) controllableFields (now (text .entry)) at ⌝ }
 {
     let lows = [0i64; 4];
     let highs = [2000000i64; 4];
     let mut v = [0i64; 4];
-    let b = read_lines(text, at, b"base=lpc=nonspin=regup=", &lows, &highs, &mut v);
-    lines_of(b, controllable_of(&v))
+    let b = read_numbers(
+        text,
+        at,
+        b"base=lpc=nonspin=regup=",
+        &lows,
+        &highs,
+        4,
+        &mut v,
+    );
+    match b {
+        MarkedLines::Refused(fault) => ResourceLines::Refused(fault),
+        MarkedLines::Read { marks, next } => ResourceLines::Read {
+            resource: controllable_of(marks, &v),
+            next,
+        },
+    }
 }
 
 // The lines of another load after its kind.
 pub(crate) fn load_at(text: &[u8], at: usize) -> ResourceLines
-    ensures { λ r. ⌜ linesAnswer r ≡ linesAs loadOf loadFields (now (text .entry)) at ⌝ }
+    ensures { λ r. ⌜ linesAnswer r ≡ linesAs (withMarks loadOf) loadFields (now (text .entry)) at ⌝ }
 {
     let lows = [0i64; 4];
     let highs = [1, 2000000, 2000000, 2000000];
     let mut v = [0i64; 4];
-    let b = read_lines(text, at, b"rrsok=net=lpc=rrs=", &lows, &highs, &mut v);
-    lines_of(b, load_of(&v))
+    let b = read_numbers(text, at, b"rrsok=net=lpc=rrs=", &lows, &highs, 0, &mut v);
+    match b {
+        MarkedLines::Refused(fault) => ResourceLines::Refused(fault),
+        MarkedLines::Read { marks, next } => ResourceLines::Read {
+            resource: load_of(marks, &v),
+            next,
+        },
+    }
 }

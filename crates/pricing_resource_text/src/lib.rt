@@ -1,6 +1,7 @@
 // The text of one resource: its kind and its fields.
 mod kinds;
-mod made;
+pub mod made;
+mod marks;
 mod words;
 
 ghost use mathlib.Core.Path.{_≡_};

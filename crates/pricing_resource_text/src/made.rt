@@ -1,4 +1,4 @@
-// A resource made of its status, by its place in the list of words, and of its values.
+// A resource made of its status, by its place in the list of words, of its marks and of its values.
 ghost use mathlib.Core.Path.{_≡_};
 ghost use Prim.Native.Nat.{ℕ, _≤_, _<_};
 ghost use lib.IntN.{natAbs};
@@ -21,7 +21,7 @@ fn number(v: &[i64], place: usize) -> i32
 }
 
 // A status by its place in the list of words.
-pub(crate) fn status_of(index: usize) -> Status
+pub fn status_of(index: usize) -> Status
     ensures { λ r. ⌜ r ≡ statusOf index ⌝ }
 {
     match index {
@@ -36,9 +36,9 @@ pub(crate) fn status_of(index: usize) -> Status
 }
 
 // A resource of each kind by its values.
-pub(crate) fn generator_of(kind: Kind, status: Status, v: &[i64]) -> Resource
+pub(crate) fn generator_of(kind: Kind, status: Status, marks: u64, v: &[i64]) -> Resource
     requires { ⌜ (length (now v) ≡ 6) × ((place : ℕ) → natAbs (value (now v) place) ≤ 2000000) ⌝ }
-    ensures { λ r. ⌜ r ≡ generatorOf kind status (now (v .entry)) ⌝ }
+    ensures { λ r. ⌜ r ≡ generatorOf kind status marks (now (v .entry)) ⌝ }
 {
     Resource::Generator(Generator {
         kind,
@@ -49,29 +49,32 @@ pub(crate) fn generator_of(kind: Kind, status: Status, v: &[i64]) -> Resource
         base: number(v, 3),
         nonspin: number(v, 4),
         cold30: number(v, 5),
+        marks,
     })
 }
 
-pub(crate) fn controllable_of(v: &[i64]) -> Resource
+pub(crate) fn controllable_of(marks: u64, v: &[i64]) -> Resource
     requires { ⌜ (length (now v) ≡ 4) × ((place : ℕ) → natAbs (value (now v) place) ≤ 2000000) ⌝ }
-    ensures { λ r. ⌜ r ≡ controllableOf (now (v .entry)) ⌝ }
+    ensures { λ r. ⌜ r ≡ controllableOf marks (now (v .entry)) ⌝ }
 {
     Resource::Controllable(Controllable {
         base: number(v, 0),
         lpc: number(v, 1),
         nonspin: number(v, 2),
         regup: number(v, 3),
+        marks,
     })
 }
 
-pub(crate) fn load_of(v: &[i64]) -> Resource
+pub(crate) fn load_of(marks: u64, v: &[i64]) -> Resource
     requires { ⌜ (length (now v) ≡ 4) × ((place : ℕ) → natAbs (value (now v) place) ≤ 2000000) ⌝ }
-    ensures { λ r. ⌜ r ≡ loadOf (now (v .entry)) ⌝ }
+    ensures { λ r. ⌜ r ≡ loadOf marks (now (v .entry)) ⌝ }
 {
     Resource::Load(Load {
         rrsok: number(v, 0),
         net: number(v, 1),
         lpc: number(v, 2),
         rrs: number(v, 3),
+        marks,
     })
 }

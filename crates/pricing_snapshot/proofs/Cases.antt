@@ -4,8 +4,8 @@ use native.Mathlib.Omega.{arith}
 use mathlib.Core.Path.{_≡_, refl, ap, _∙_}
 use mathlib.Core.Bool.{Bool, true, false, cond}
 use mathlib.Core.List.{List, [], _∷_}
-use borrow.Author.Tests.{lt-ltb, le-ltb, ltb-true, ltb-false}
-use lib.Dec.{ltb}
+use borrow.Author.Tests.{lt-ltb, le-ltb, ltb-true, ltb-false, eqb-true}
+use lib.Dec.{eqb, ltb}
 use lib.IntN.{natAbs}
 use lib.ListN.{length}
 use Rattle.text_refusal.specs.Bytes.{bytes}
@@ -18,32 +18,45 @@ use Rattle.text_line.specs.Field.{LineAnswer, got, refused, fieldAt}
 use Rattle.text_schema.specs.Schema.{readFields}
 use Rattle.text_id.specs.Id.{idField}
 use Rattle.text_id_table.specs.Ids.{standsIn}
+use Rattle.pricing_resource.specs.Suspect.{suspectLine}
 use Rattle.pricing_resource.specs.declared.Resource.{Resource}
 use Rattle.pricing_sums.specs.declared.header.Header.{Header}
 use Rattle.pricing_resource_text.specs.Resource.{afterAnswer, ofLines, linesAs, resourceAt}
-use Rattle.pricing_snapshot.specs.Snapshot.{headerFields, headerOf, newIdAt, Entry, withEntry, resourcesAt, Contents, afterHeader, dueLines, SnapshotAnswer, read, refused-by, afterLast, afterLines, snapshotIn}
+use Rattle.pricing_snapshot.specs.Snapshot.{headerFields, headerOf, newIdAt, Entry, withEntry, resourcesAt, resourcesOf, Contents, afterHeader, dueLines, SnapshotAnswer, read, refused-by, afterLast, afterLines, snapshotIn}
 use Rattle.pricing_snapshot.specs.Promises.{FaultyResource, faulty-id, repeated-id, faulty-lines, later-resource, FaultyLine, in-header, in-resources, FirstFaultyLineIsRefused, SnapshotIsRefusedFirst}
 
--- 2, the first faulty line, 9, or the snapshot
+-- 2, the first faulty line, 9, 15, or the snapshot
 pub data SnapshotCase (text : List ℕ) : SnapshotAnswer → Type 0 where
   too-long : 1048576 < length text → SnapshotCase text (refused-by (record { number = 2; line = 0 }))
   line-refused : {found : Fault} → length text ≤ 1048576 → dueLines text ≡ refused found → SnapshotCase text (refused-by (refusalOf text found))
   bytes-after :
       {found : Contents} {next : ℕ} → length text ≤ 1048576 → dueLines text ≡ got found next → next < length text →
       SnapshotCase text (refused-by (refusalOf text (fault 9 next)))
+  suspect-number :
+      {found : Contents} {next : ℕ} → length text ≤ 1048576 → dueLines text ≡ got found next → length text ≤ next →
+      eqb (suspectLine (resourcesOf (found .entries))) 0 ≡ false →
+      SnapshotCase text (refused-by (record { number = 15; line = suspectLine (resourcesOf (found .entries)) }))
   whole :
       {found : Contents} {next : ℕ} → length text ≤ 1048576 → dueLines text ≡ got found next → length text ≤ next →
+      suspectLine (resourcesOf (found .entries)) ≡ 0 →
       SnapshotCase text (read (found .header) (found .entries))
 
 pub snapshot-case : (text : List ℕ) → SnapshotCase text (snapshotIn text)
 unfolding snapshotIn
 snapshot-case text = go (ltb 1048576 (length text)) refl
   where
+    marks :
+        {found : Contents} {next : ℕ} → length text ≤ 1048576 → dueLines text ≡ got found next → length text ≤ next → (fine : Bool) →
+        eqb (suspectLine (resourcesOf (found .entries))) 0 ≡ fine →
+        SnapshotCase text (cond fine (read (found .header) (found .entries)) (refused-by (record { number = 15; line = suspectLine (resourcesOf (found .entries)) })))
+    marks {found} short due over true e = whole short due over (eqb-true (suspectLine (resourcesOf (found .entries))) 0 e)
+    marks short due over false e = suspect-number short due over e
+
     last :
         {found : Contents} {next : ℕ} → length text ≤ 1048576 → dueLines text ≡ got found next → (more : Bool) → ltb next (length text) ≡ more →
         SnapshotCase text (afterLast text found (cond more (lines.Refused (fault 9 next)) (lines.Read next)))
     last {found} {next} short due true e = bytes-after short due (ltb-true next (length text) e)
-    last {found} {next} short due false e = whole short due (ltb-false next (length text) e)
+    last {found} {next} short due false e = marks short due (ltb-false next (length text) e) (eqb (suspectLine (resourcesOf (found .entries))) 0) refl
 
     lines : length text ≤ 1048576 → (a : LineAnswer Contents) → dueLines text ≡ a → SnapshotCase text (afterLines text a)
     lines short (refused found) due = line-refused short due
@@ -70,9 +83,16 @@ module _ (text : List ℕ) where
       unfolding snapshotIn
       case-after more = rw (le-ltb 1048576 (length text) short, due, lt-ltb next (length text) more)
 
-      pub case-whole : length text ≤ next → snapshotIn text ≡ read (found .header) (found .entries)
-      unfolding snapshotIn
-      case-whole over = rw (le-ltb 1048576 (length text) short, due, le-ltb next (length text) over)
+      module _ (over : length text ≤ next) where
+        pub case-suspect :
+            eqb (suspectLine (resourcesOf (found .entries))) 0 ≡ false →
+            snapshotIn text ≡ refused-by (record { number = 15; line = suspectLine (resourcesOf (found .entries)) })
+        unfolding snapshotIn
+        case-suspect marked = rw (le-ltb 1048576 (length text) short, due, le-ltb next (length text) over, marked)
+
+        pub case-whole : suspectLine (resourcesOf (found .entries)) ≡ 0 → snapshotIn text ≡ read (found .header) (found .entries)
+        unfolding snapshotIn
+        case-whole fine = rw (le-ltb 1048576 (length text) short, due, le-ltb next (length text) over, fine)
 
 -- ---- the first faulty line
 
@@ -148,7 +168,8 @@ snapshot-is-refused-first text =
       too-long = λ long. rw (case-long text long) (refl, refl);
       faulty-line = λ found short due. (first-faulty-line-is-refused text found due, rw (case-refused text short due) (refl, refl));
       bytes-after = λ found next short due more. rw (case-after text short due more) (refl, refl);
-      accepted = λ found next short due over. rw (case-whole text short due over);
+      suspect-number = λ found next short due over marked. rw (case-suspect text short due over marked) (refl, refl);
+      accepted = λ found next short due over fine. rw (case-whole text short due over fine);
     }
 
 -- ---- the definitions, step by step

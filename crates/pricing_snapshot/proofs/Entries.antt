@@ -17,7 +17,7 @@ use Rattle.pricing_sums.specs.declared.header.Header.{Header}
 use Rattle.pricing_resource_text.specs.Resource.{afterAnswer, linesAs, resourceAt}
 use Rattle.pricing_resource_text.proofs.Readings.{followed}
 use Rattle.pricing_snapshot.specs.Snapshot.{headerFields, headerOf, newIdAt, Entry, withEntry, resourcesAt, Contents, afterHeader, dueLines, SnapshotAnswer, read, snapshotIn}
-use Rattle.pricing_snapshot.proofs.Cases.{SnapshotCase, too-long, line-refused, bytes-after, whole, snapshot-case}
+use Rattle.pricing_snapshot.proofs.Cases.{SnapshotCase, too-long, line-refused, bytes-after, suspect-number, whole, snapshot-case}
 
 -- the header's lines written out
 pub header-computed :
@@ -88,7 +88,7 @@ pub record SnapshotLines (text : List ℕ) (h : Header) (entries : List Entry) :
   pub header-read : linesAs headerOf headerFields text 0 ≡ got h next
   pub entries-read : resourcesAt resourceAt (natAbs (h .count)) [] text next ≡ got entries last
 
-lines-due : (text : List ℕ) {found : Contents} {next : ℕ} → dueLines text ≡ got found next → SnapshotLines text (found .header) (found .entries)
+pub lines-due : (text : List ℕ) {found : Contents} {next : ℕ} → dueLines text ≡ got found next → SnapshotLines text (found .header) (found .entries)
 unfolding dueLines
 lines-due text {found} {next} e =
     let f = followed (linesAs headerOf headerFields text 0) (λ h after. afterHeader text h after) e in
@@ -104,7 +104,8 @@ snapshot-lines text {h} {entries} p = go (snapshotIn text) (snapshot-case text) 
     go a (too-long long) p = let z : _≡_ {A = ℕ} 0 1 = cc in absurd (omega arith)
     go a (line-refused short due) p = let z : _≡_ {A = ℕ} 0 1 = cc in absurd (omega arith)
     go a (bytes-after short due more) p = let z : _≡_ {A = ℕ} 0 1 = cc in absurd (omega arith)
-    go a (whole {found} short due over) p =
+    go a (suspect-number short due over marked) p = let z : _≡_ {A = ℕ} 0 1 = cc in absurd (omega arith)
+    go a (whole {found} short due over fine) p =
         let h-is : found .header ≡ h = cc in
         let entries-is : found .entries ≡ entries = cc in
         rw (← h-is, ← entries-is) (lines-due text due)

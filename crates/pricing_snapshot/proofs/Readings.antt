@@ -15,13 +15,14 @@ use Rattle.text_line.specs.declared.Lines.the-variants as lines
 use Rattle.pricing_snapshot.specs.Snapshot.{headerFields, headerOf, Entry, newIdAt, withEntry, resourcesAt, Contents, afterHeader, dueLines, SnapshotAnswer, read, snapshotIn, resourcesOf}
 use Rattle.pricing_sums.specs.declared.header.Header.{Header}
 use Rattle.pricing_resource_text.specs.Resource.{afterAnswer, ofLines, linesAs, resourceAt}
+use Rattle.pricing_resource.specs.Suspect.{suspectLine}
 use Rattle.pricing_resource.specs.declared.Resource.{Resource}
 use Rattle.pricing_resource.specs.internal.Range.{Between, ResourceInRange}
 use Rattle.pricing_sums.proofs.Headers.{HeaderInRange}
 use Rattle.pricing_sums.proofs.Parts.{AllInRange, none-in-range, one-in-range}
 use Rattle.text_schema.proofs.Readings.{number-at}
 use Rattle.pricing_resource_text.proofs.Readings.{followed, resource-read}
-use Rattle.pricing_snapshot.proofs.Cases.{SnapshotCase, too-long, line-refused, bytes-after, whole, snapshot-case}
+use Rattle.pricing_snapshot.proofs.Cases.{SnapshotCase, too-long, line-refused, bytes-after, suspect-number, whole, snapshot-case}
 
 -- ---- the header
 
@@ -98,10 +99,22 @@ snapshot-read text {h} {entries} p = go (snapshotIn text) (snapshot-case text) p
     go a (too-long long) p = let z : _≡_ {A = ℕ} 0 1 = cc in absurd (omega arith)
     go a (line-refused short due) p = let z : _≡_ {A = ℕ} 0 1 = cc in absurd (omega arith)
     go a (bytes-after short due more) p = let z : _≡_ {A = ℕ} 0 1 = cc in absurd (omega arith)
-    go a (whole {found} short due over) p =
+    go a (suspect-number short due over marked) p = let z : _≡_ {A = ℕ} 0 1 = cc in absurd (omega arith)
+    go a (whole {found} short due over fine) p =
         let h-is : found .header ≡ h = cc in
         let entries-is : found .entries ≡ entries = cc in
         rw (← h-is, ← entries-is) (lines-read text due)
+
+-- and no mark turned it back
+pub snapshot-unmarked : (text : List ℕ) {h : Header} {entries : List Entry} → snapshotIn text ≡ read h entries → suspectLine (resourcesOf entries) ≡ 0
+snapshot-unmarked text {h} {entries} p = go (snapshotIn text) (snapshot-case text) p
+  where
+    go : (a : SnapshotAnswer) → SnapshotCase text a → a ≡ read h entries → suspectLine (resourcesOf entries) ≡ 0
+    go a (too-long long) p = let z : _≡_ {A = ℕ} 0 1 = cc in absurd (omega arith)
+    go a (line-refused short due) p = let z : _≡_ {A = ℕ} 0 1 = cc in absurd (omega arith)
+    go a (bytes-after short due more) p = let z : _≡_ {A = ℕ} 0 1 = cc in absurd (omega arith)
+    go a (suspect-number short due over marked) p = let z : _≡_ {A = ℕ} 0 1 = cc in absurd (omega arith)
+    go a (whole {found} short due over fine) p = let entries-is : found .entries ≡ entries = cc in rw (← entries-is) fine
 
 pub few : (z : ℤ) → Between (pos 0) (pos 4096) z → natAbs z ≤ 4096
 few z = rw (view z) (simp toℕ (omega arith))

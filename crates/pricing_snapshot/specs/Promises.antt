@@ -1,8 +1,9 @@
 -- What is promised of reading a snapshot: demand 1 (document 01, "Turned back, in checking order").
 use Prim.Native.Nat.{ℕ, suc, _≤_, _<_}
 use mathlib.Core.Path.{_≡_}
-use mathlib.Core.Bool.{true}
+use mathlib.Core.Bool.{true, false}
 use mathlib.Core.List.{List, [], _∷_}
+use lib.Dec.{eqb}
 use lib.IntN.{natAbs}
 use lib.ListN.{length}
 use Rattle.text_refusal.specs.Bytes.{bytes}
@@ -16,6 +17,7 @@ use Rattle.text_id.specs.Id.{idField}
 use Rattle.text_id_table.specs.Ids.{standsIn}
 use Rattle.pricing_sums.specs.Part.{sumsOf}
 use Rattle.pricing_sums.specs.declared.header.Header.{Header}
+use Rattle.pricing_resource.specs.Suspect.{suspectLine}
 use Rattle.pricing_resource.specs.declared.Resource.{Resource}
 use Rattle.pricing_resource_text.specs.Resource.{linesAs, resourceAt}
 use Rattle.pricing_snapshot.specs.Snapshot.{headerFields, headerOf, newIdAt, resourcesOf, Contents, dueLines, snapshotIn, snapshotSums, snapshotNumber, snapshotLine}
@@ -67,9 +69,15 @@ pub record SnapshotInOrder (text : List ℕ) : Type 0 where
   pub bytes-after :
       (found : Contents) (next : ℕ) → length text ≤ 1048576 → dueLines text ≡ got found next → next < length text →
       SnapshotRefusedBy 9 (lineOf text next) (snapshotSums (snapshotIn text))
+  -- then 15 with the line of the first marked number on a unit where that turns the snapshot back (document 02, W-206)
+  pub suspect-number :
+      (found : Contents) (next : ℕ) → length text ≤ 1048576 → dueLines text ≡ got found next → length text ≤ next →
+      eqb (suspectLine (resourcesOf (found .entries))) 0 ≡ false →
+      SnapshotRefusedBy 15 (suspectLine (resourcesOf (found .entries))) (snapshotSums (snapshotIn text))
   -- nothing else is refused: the header and the sums are those of the lines
   pub accepted :
       (found : Contents) (next : ℕ) → length text ≤ 1048576 → dueLines text ≡ got found next → length text ≤ next →
+      suspectLine (resourcesOf (found .entries)) ≡ 0 →
       snapshotSums (snapshotIn text) ≡ snapshot.Read (found .header) (sumsOf (resourcesOf (found .entries)))
 
 abbrev pub SnapshotIsRefusedFirst : Type 0

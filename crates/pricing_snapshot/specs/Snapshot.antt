@@ -1,8 +1,8 @@
--- Document 01, "Snapshot to reserves": the snapshot text. Refusals 2, the lines with 3 to 8, 9.
+-- Document 01, "Snapshot to reserves": the snapshot text. Refusals 2, the lines with 3 to 8, 9; then 15 (document 02, W-206).
 use Prim.Native.Nat.{ℕ, zero, suc}
 use mathlib.Core.Bool.{cond}
 use mathlib.Core.List.{List, [], _∷_, map}
-use lib.Dec.{ltb}
+use lib.Dec.{eqb, ltb}
 use lib.IntN.{ℤ, natAbs}
 use lib.ListN.{length}
 use Rattle.text_refusal.specs.Bytes.{bytes}
@@ -19,12 +19,10 @@ use Rattle.text_line.specs.declared.Lines.the-variants as lines
 use Rattle.text_schema.specs.Schema.{value}
 use Rattle.pricing_sums.specs.Header.{HeaderLine, headerLines}
 use Rattle.pricing_sums.specs.declared.header.Header.{Header}
-use Rattle.pricing_sums.specs.declared.Sums.{Sums}
 use Rattle.pricing_resource_text.specs.Resource.{afterAnswer, linesAs, resourceAt}
 use Rattle.pricing_sums.specs.Part.{sumsOf}
+use Rattle.pricing_resource.specs.Suspect.{suspectLine}
 use Rattle.pricing_resource.specs.declared.Resource.{Resource}
-use Rattle.pricing_snapshot.specs.declared.resources.Resources.{Resources}
-use Rattle.pricing_snapshot.specs.declared.resources.Resources.the-variants as resources
 use Rattle.pricing_snapshot.specs.declared.Snapshot.{Snapshot}
 use Rattle.pricing_snapshot.specs.declared.Snapshot.the-variants as snapshot
 
@@ -73,18 +71,9 @@ resourcesAt reader (suc n) above text at =
     afterAnswer (resourcesAt reader n (id ∷ above) text after)
     (λ others last. got (withEntry id one others) last)))
 
--- what reading the resources gives to pricing: their sums
+-- the resources without their ids
 abbrev pub resourcesOf : List Entry → List Resource
 resourcesOf entries = map (λ (entry : Entry). entry .resource) entries
-
-abbrev pub summed : LineAnswer (List Entry) → LineAnswer Sums
-summed (got entries next) = got (sumsOf (resourcesOf entries)) next
-summed (refused found) = refused found
-
--- what an answer of the reader of the resources says
-abbrev pub resourcesAnswer : Resources → LineAnswer Sums
-resourcesAnswer (resources.Read sums next) = got sums next
-resourcesAnswer (resources.Refused found) = refused found
 
 -- ---- the snapshot
 
@@ -107,16 +96,20 @@ pub data SnapshotAnswer : Type 0 where
   read : Header → List Entry → SnapshotAnswer
   refused-by : Refusal → SnapshotAnswer
 
+-- then 15 with the line of the first number that is marked suspect on a unit where that turns the snapshot back; 8 lines stand before the resources
+abbrev pub unlessSuspect : Contents → ℕ → SnapshotAnswer
+unlessSuspect found line = cond (eqb line 0) (read (found .header) (found .entries)) (refused-by (record { number = 15; line = line }))
+
 abbrev pub afterLast : List ℕ → Contents → Lines → SnapshotAnswer
 afterLast text found (lines.Refused fault) = refused-by (refusalOf text fault)
-afterLast text found (lines.Read stop) = read (found .header) (found .entries)
+afterLast text found (lines.Read stop) = unlessSuspect found (suspectLine (resourcesOf (found .entries)))
 
--- then 9
+-- 9 before that
 abbrev pub afterLines : List ℕ → LineAnswer Contents → SnapshotAnswer
 afterLines text (refused fault) = refused-by (refusalOf text fault)
 afterLines text (got found next) = afterLast text found (endAt text next)
 
--- 2 above 1048576 bytes, then the lines in order, then 9
+-- 2 above 1048576 bytes, then the lines in order, then 9, then 15
 unfoldable pub snapshotIn : List ℕ → SnapshotAnswer
 snapshotIn text = cond (ltb 1048576 (length text)) (refused-by (record { number = 2; line = 0 })) (afterLines text (dueLines text))
 

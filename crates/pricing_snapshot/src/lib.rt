@@ -8,7 +8,8 @@ ghost use mathlib.Core.List.{[]};
 ghost use Prim.Native.Nat.{_≤_};
 ghost use lib.IntN.{natAbs};
 ghost use Rattle.pricing_resource_text.specs.Resource.{resourceAt};
-ghost use Rattle.pricing_snapshot.specs.Snapshot.{resourcesAt, summed, resourcesAnswer, afterHeader, afterLines, snapshotIn, snapshotSums};
+ghost use Rattle.pricing_snapshot.specs.Snapshot.{resourcesAt, afterHeader, afterLines, snapshotIn, snapshotSums};
+ghost use Rattle.pricing_snapshot.specs.internal.Tallied.{noTally, tallied, resourcesAnswer};
 use crate::header::header_at;
 use crate::header::header_of;
 use crate::resources::Resources;
@@ -30,7 +31,7 @@ pub enum Snapshot {
 // The resources; where they are few, the table of their ids is small.
 fn resources_in(text: &[u8], at: usize, count: usize) -> Resources
     requires { ⌜ count ≤ 4096 ⌝ }
-    ensures { λ r. ⌜ resourcesAnswer r ≡ summed (resourcesAt resourceAt count [] (now (text .entry)) at) ⌝ }
+    ensures { λ r. ⌜ resourcesAnswer r ≡ tallied noTally (resourcesAt resourceAt count [] (now (text .entry)) at) ⌝ }
 {
     if count <= 64 {
         let mut starts = [0usize; 192];
@@ -49,11 +50,20 @@ fn after_header(text: &[u8], header: Header, at: usize) -> Snapshot
     let r = resources_in(text, at, count);
     match r {
         Resources::Refused(fault) => return Snapshot::Refused(refusal_of(text, fault)),
-        Resources::Read { sums, next } => {
+        Resources::Read { tally, next } => {
             let e = end_at(text, next);
             match e {
                 Lines::Refused(fault) => return Snapshot::Refused(refusal_of(text, fault)),
-                Lines::Read { next: _ } => return Snapshot::Read { header, sums },
+                Lines::Read { next: _ } => {
+                    if 0 < tally.suspect {
+                        return Snapshot::Refused(Refusal {
+                            number: 15,
+                            line: tally.suspect,
+                        });
+                    }
+                    let sums = tally.sums;
+                    return Snapshot::Read { header, sums };
+                }
             }
         }
     }

@@ -3,7 +3,7 @@ use Prim.Native.Nat.{ℕ, _+_, _≤_}
 use native.Mathlib.Nat.{mul-zero, mul-le-mul-right}
 use native.Mathlib.Numerals.{one-add}
 use native.Mathlib.Omega.{arith}
-use mathlib.Core.Path.{_≡_, refl}
+use mathlib.Core.Path.{_≡_, refl, sym, _∙_}
 use mathlib.Core.Bool.{Bool, true, false, cond}
 use mathlib.Core.List.{List, [], _∷_}
 use lib.Dec.{lit≤}
@@ -19,6 +19,9 @@ use Rattle.pricing_sums.specs.declared.Sums.{Sums}
 use Rattle.pricing_resource.specs.Flag.{isOne}
 use Rattle.pricing_resource.specs.Online.{countedOnline}
 use Rattle.pricing_resource.specs.Offline.{countedOffline}
+use Rattle.pricing_resource.specs.Suspect.{withoutMarks, marksTurnBack}
+use Rattle.pricing_resource.proofs.Counted.{counted-online-same}
+use Rattle.pricing_resource.proofs.Suspects.{generator-outside, controllable-verdict, load-verdict}
 use Rattle.pricing_sums.specs.Part.{partOf, sumsOf}
 use Rattle.pricing_sums.specs.internal.Range.{Times, SumsWithin}
 use Rattle.pricing_resource.specs.internal.Range.{Between, ResourcePower, ResourceInRange}
@@ -205,3 +208,20 @@ plus-fits {a} {b} h k =
       validated = times-fits 2000000 2000000 (plus a b .validated) (lit≤ tt) (lit≤ tt) (s .validated);
       responsive = times-fits 0 2000000 (plus a b .responsive) (lit≤ tt) (lit≤ tt) (s .responsive);
     }
+
+-- ---- marks
+
+-- a unit on which no mark turns the snapshot back adds nothing
+pub part-outside : (one : Resource) → marksTurnBack one ≡ false → partOf one ≡ noSums
+part-outside (resource.Generator g) e = let none = generator-outside g e in part-uncounted g (none .0) (none .1)
+part-outside (resource.Controllable c) e = let both : true ≡ false = sym (controllable-verdict c) ∙ e in let z : _≡_ {A = ℕ} 0 1 = cc in absurd (omega arith)
+part-outside (resource.Load l) e = let both : true ≡ false = sym (load-verdict l) ∙ e in let z : _≡_ {A = ℕ} 0 1 = cc in absurd (omega arith)
+
+-- marks add nothing
+pub part-unmarked : (one : Resource) → partOf (withoutMarks one) ≡ partOf one
+unfolding partOf
+part-unmarked (resource.Generator g) =
+    let plain : Generator = record { kind = g .kind; status = g .status; net = g .net; lsl = g .lsl; hsl = g .hsl; base = g .base; nonspin = g .nonspin; cold30 = g .cold30; marks = 0 } in
+    rw (counted-online-same plain g refl refl refl refl refl)
+part-unmarked (resource.Controllable c) = refl
+part-unmarked (resource.Load l) = refl

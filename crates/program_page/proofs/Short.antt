@@ -25,7 +25,7 @@ pub page-output-is-short : PageOutputIsShort
 unfolding pageOutput
 page-output-is-short input = by-length (leb (length input) 4096) refl
   where
-    refused : (found : Refusal) → found .number ≤ 14 → found .line ≤ 4097 → length (refusalLines found (bytes "curves")) ≤ 1728
+    refused : (found : Refusal) → found .number ≤ 15 → found .line ≤ 4097 → length (refusalLines found (bytes "curves")) ≤ 1728
     refused found number line = omega (arith, refusal-short found (bytes "curves") (omega arith) (omega arith) (omega arith))
 
     long : length (pageOf (readCurves input .set)) ≡ 1728

@@ -20,7 +20,7 @@ fn number_space() -> [i64; 36873] {
     [0; 36873]
 }
 
-// The longest buffer; the longest text has 495718 bytes.
+// The longest buffer; the longest text has 516198 bytes.
 fn buffer_space() -> [u8; 524288] {
     [0; 524288]
 }

@@ -1,17 +1,18 @@
 -- Named statements on reading and writing by any schema, over any kind of value. A set of values has exactly one text.
 use Prim.Native.Nat.{ℕ, _+_, _<_}
 use mathlib.Core.Path.{_≡_}
-use mathlib.Core.Bool.{true}
+use mathlib.Core.Bool.{true, false}
 use mathlib.Core.List.{List, [], _∷_, _++_}
 use lib.IntN.{ℤ}
 use lib.ListN.{length}
 use lib.Signed.{_≤ℤ_}
-use Rattle.text_line.specs.Judged.{good}
+use Rattle.text_line.specs.Judged.{good, bad}
 use Rattle.text_line.specs.Line.{OneLine}
 use Rattle.text_line.specs.Piece.{part}
 use Rattle.text_line.specs.Field.{Field}
 use Rattle.text_line.specs.declared.Lines.the-variants as lines
 use Rattle.text_number.specs.Field.{numberField}
+use Rattle.text_number.specs.Marked.{Marked, markedField, unmarkedField}
 use Rattle.text_word.specs.Word.{wordIn, writtenWord, wordField}
 use Rattle.text_word.specs.declared.Word.the-variants as word
 use Rattle.text_id.specs.Id.{isId, idField}
@@ -64,6 +65,10 @@ FitsOrRefused {A} field = (value : A) → refusedBy (field .read (field .write v
 abbrev pub NumbersFitOrAreRefused : Type 0
 NumbersFitOrAreRefused = (key : List ℕ) (low high : ℤ) → FitsOrRefused (numberField key low high)
 
+-- a number with its mark, where it may be marked and where it carries none
+abbrev pub MarkedNumbersFitOrAreRefused : Type 0
+MarkedNumbersFitOrAreRefused = (key : List ℕ) (low high : ℤ) → FitsOrRefused (markedField key low high) × FitsOrRefused (unmarkedField key low high)
+
 -- a list each of whose words fits
 abbrev pub WordsFitOrAreRefused : Type 0
 WordsFitOrAreRefused =
@@ -72,12 +77,30 @@ WordsFitOrAreRefused =
 abbrev pub IdsFitOrAreRefused : Type 0
 IdsFitOrAreRefused = (key : List ℕ) → FitsOrRefused (idField key)
 
--- the three kinds of value are sound: a number within its bounds, a listed word, an id
+-- the kinds of value are sound: a number within its bounds, one that may be marked, a listed word, an id
 abbrev pub NumbersAreSound : Type 0
 NumbersAreSound = (key : List ℕ) (low high : ℤ) → OneLine key → Sound (numberField key low high)
 
 abbrev pub NumbersInRangeFit : Type 0
 NumbersInRangeFit = (key : List ℕ) (low high z : ℤ) → low ≤ℤ z → z ≤ℤ high → Fitting (numberField key low high) z
+
+abbrev pub MarkedNumbersAreSound : Type 0
+MarkedNumbersAreSound = (key : List ℕ) (low high : ℤ) → OneLine key → Sound (markedField key low high) × Sound (unmarkedField key low high)
+
+-- with a mark and without one
+abbrev pub MarkedNumbersInRangeFit : Type 0
+MarkedNumbersInRangeFit =
+    (key : List ℕ) (low high : ℤ) (m : Marked) → low ≤ℤ m .number → m .number ≤ℤ high →
+    Fitting (markedField key low high) m × (m .suspect ≡ false → Fitting (unmarkedField key low high) m)
+
+-- document 02, W-206: where no mark may stand it is badly written
+abbrev pub MarksAreBadlyWrittenElsewhere : Type 0
+MarksAreBadlyWrittenElsewhere =
+    (key : List ℕ) (low high : ℤ) (bytes : List ℕ) → (numberField key low high .read (bytes ++ (63 ∷ [])) ≡ bad 6) × (unmarkedField key low high .read (bytes ++ (63 ∷ [])) ≡ bad 6)
+
+-- and so is a second one, where one may stand
+abbrev pub SecondMarksAreBadlyWritten : Type 0
+SecondMarksAreBadlyWritten = (key : List ℕ) (low high : ℤ) (bytes : List ℕ) → markedField key low high .read (bytes ++ (63 ∷ 63 ∷ [])) ≡ bad 6
 
 abbrev pub WordsAreSound : Type 0
 WordsAreSound = (key : List ℕ) (words : List (List ℕ)) → OneLine key → Sound (wordField key words)

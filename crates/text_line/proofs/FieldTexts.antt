@@ -130,6 +130,28 @@ module _ {A : Type 0} (field : Field A) (text : List ℕ) (at : ℕ) where
       go (good value) e = judge (nextAt at (field .key) value) (field .read value) e
       go (bad number) e = let same : found ≡ fault number at = cc in ap (λ (f : Fault). f .at) same
 
+-- ---- a line of one kind of value read as another under the same key
+
+module _ {A B : Type 0} (field : Field A) (other : Field B) (text : List ℕ) (at : ℕ) where
+  pub field-as :
+      other .key ≡ field .key → {value : A} {next : ℕ} → fieldAt field text at ≡ got value next → {said : B} →
+      ((bytes : List ℕ) → field .read bytes ≡ good value → other .read bytes ≡ good said) → fieldAt other text at ≡ got said next
+  unfolding fieldAt
+  field-as keys {value} {next} e {said} also = ap (λ (key : List ℕ). valueIn other at (lineIn key (drop at text))) keys ∙ go (lineIn (field .key) (drop at text)) e
+    where
+      judge :
+          (bytes : List ℕ) (found : Judged A) → field .read bytes ≡ found → judged at (nextAt at (field .key) bytes) found ≡ got value next →
+          judged at (nextAt at (other .key) bytes) (other .read bytes) ≡ got said next
+      judge bytes (good v) h e =
+          let same : v ≡ value = cc in
+          let here : nextAt at (field .key) bytes ≡ next = cc in
+          rw (also bytes (h ∙ ap good same), keys, here)
+      judge bytes (bad number) h e = let z : _≡_ {A = ℕ} 0 1 = cc in absurd (omega arith)
+
+      go : (found : Judged (List ℕ)) → valueIn field at found ≡ got value next → valueIn other at found ≡ got said next
+      go (good bytes) e = judge bytes (field .read bytes) refl e
+      go (bad number) e = let z : _≡_ {A = ℕ} 0 1 = cc in absurd (omega arith)
+
 -- ---- in a part of the text: every position moved by where the part starts
 
 abbrev pub movedFault : ℕ → Fault → Fault

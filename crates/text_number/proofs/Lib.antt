@@ -3,4 +3,6 @@ pub mod Digits
 pub mod Naturals
 pub mod Numbers
 pub mod Fields
+pub mod Marks
 pub mod WrittenDigits
+pub mod MarkedDigits

@@ -115,7 +115,7 @@ pub digits-plain : (n : ℕ) → plain (digitsOf n) ≡ true
 digits-plain zero = rw (digits-one 0 (omega arith))
 digits-plain (suc n) = leading-plain (digitsOf (suc n)) (digits-leading (suc n) (omega arith))
 
-value-more : (front : ℕ) (bytes : List ℕ) (byte : ℕ) → valueOf front (bytes ++ (byte ∷ [])) ≡ valueOf front bytes * 10 + (byte - 48)
+pub value-more : (front : ℕ) (bytes : List ℕ) (byte : ℕ) → valueOf front (bytes ++ (byte ∷ [])) ≡ valueOf front bytes * 10 + (byte - 48)
 unfolding valueOf
 value-more front [] byte = refl
 value-more front (first ∷ bytes) byte = value-more (front * 10 + (first - 48)) bytes byte
@@ -218,7 +218,7 @@ plain-some : (bytes : List ℕ) → plain bytes ≡ true → 0 < length bytes
 plain-some [] e = let z : _≡_ {A = ℕ} 0 1 = cc in omega arith
 plain-some (byte ∷ bytes) e = omega arith
 
-pub digits-some : (n : ℕ) → 0 < length (digitsOf n)
+digits-some : (n : ℕ) → 0 < length (digitsOf n)
 digits-some n = plain-some (digitsOf n) (digits-plain n)
 
 pub number-some : (z : ℤ) → 0 < length (writtenNumber z)

@@ -1,4 +1,5 @@
 // Numbers: decimal digits, `-` in front if below zero, no leading zero, no `-0`, however many digits.
+pub mod marked;
 mod natural;
 
 ghost use mathlib.Core.Path.{_≡_};

@@ -18,11 +18,11 @@ fn all_digits(bytes: &[u8]) -> bool
 {
     let mut i: usize = 0;
     while i < bytes.len() {
-        let byte = bytes[i];
-        if byte < 48 {
+        let digit = bytes[i];
+        if digit < 48 {
             return false;
         }
-        if 57 < byte {
+        if 57 < digit {
             return false;
         }
         i += 1;

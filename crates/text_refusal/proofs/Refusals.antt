@@ -55,8 +55,8 @@ module _ (s : List ℕ) (at i : ℕ) where
 -- a refusal by a number of the list, at a line that the text has or that follows its last
 pub record Listed (text : List ℕ) (found : Refusal) : Type 0 where
   pub least : 1 ≤ found .number
-  pub most : found .number ≤ 14
+  pub most : found .number ≤ 15
   pub line : found .line ≤ length text + 1
 
-pub fault-listed : (text : List ℕ) (found : Fault) → 1 ≤ found .number → found .number ≤ 14 → Listed text (refusalOf text found)
+pub fault-listed : (text : List ℕ) (found : Fault) → 1 ≤ found .number → found .number ≤ 15 → Listed text (refusalOf text found)
 fault-listed text found low high = record { least = low; most = high; line = omega (arith, ended-at-most (found .at) text) }

@@ -148,6 +148,13 @@ pub lines-long : {fields : List (Field ℤ)} {lows highs : List ℤ} → NumberL
 lines-long no-lines = refl
 lines-long (one-more one more) = ap suc (lines-long more)
 
+-- as many lines as fields, where there are as many values
+pub checked-length : {A : Type 0} (fields : List (Field A)) (values : List A) → length fields ≤ length values → length (checkedLines fields values) ≡ length fields
+unfolding checkedLines
+checked-length [] values h = refl
+checked-length (field ∷ fields) [] h = absurd (omega arith)
+checked-length (field ∷ fields) (value ∷ values) h = ap suc (checked-length fields values (omega arith))
+
 -- no more values are looked at than there are lines
 pub checked-taken : {A : Type 0} (fields : List (Field A)) (values : List A) → checkedLines fields (take (length fields) values) ≡ checkedLines fields values
 unfolding checkedLines

@@ -5,3 +5,5 @@ pub mod Moved
 pub mod Fields
 pub mod Written
 pub mod Checked
+pub mod Marks
+pub mod MarkedWidths

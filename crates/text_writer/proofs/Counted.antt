@@ -1,5 +1,5 @@
--- How many bytes lines of numbers have.
-use Prim.Native.Nat.{ℕ, _+_, _≤_, _<_}
+-- How many bytes lines of numbers have, with marks and without.
+use Prim.Native.Nat.{ℕ, zero, suc, _+_, _/_, _%_, _≤_, _<_}
 use native.Mathlib.Numerals.{add-one}
 use native.Mathlib.Omega.{arith}
 use mathlib.Core.List.{List, [], _∷_}
@@ -13,16 +13,17 @@ use Rattle.integer.proofs.Bounds.{fits-abs}
 use Rattle.text_line.specs.Field.{Field}
 use Rattle.text_line.proofs.Pieces.{computedPieces}
 use Rattle.text_number.specs.Number.{writtenNumber}
+use Rattle.text_number.specs.Marked.{Marked, firstMarked, markedBy}
+use Rattle.text_number.proofs.Marks.{by-first}
 use Rattle.text_number.proofs.WrittenDigits.{written-within}
 use Rattle.text_schema.specs.Schema.{keysOf}
 use Rattle.text_schema.specs.Checked.{checkedLines, textOf}
-use Rattle.text_schema.proofs.Fields.{Schema, Keys, keys-computed}
-use Rattle.text_schema.proofs.Checked.{text-written}
-use Rattle.text_writer.specs.Write.{writtenLine, writtenNumbers}
-use Rattle.text_writer.proofs.Writing.{line-length, no-keys, first-line}
-use Rattle.text_writer.proofs.BySchema.{schema-written}
+use Rattle.text_schema.proofs.Fields.{keys-computed}
+use Rattle.text_schema.proofs.MarkedWidths.{MarkedWidths}
+use Rattle.text_writer.specs.Write.{writtenNumbers, writtenMarkedLine, writtenMarkedLines}
+use Rattle.text_writer.proofs.MarkedLines.{first-mark, marked-line-length, no-marked-keys, first-marked-line, lines-unmarked, marked-text}
 use Rattle.text_writer.proofs.ShortLines.{keyBytes}
-use Rattle.text_writer.specs.internal.Counted.{numberBytes}
+use Rattle.text_writer.specs.internal.Counted.{numberBytes, markBytes}
 
 -- ---- the bytes of numbers, one after the other
 
@@ -47,21 +48,56 @@ module _ (values : List ℤ) (i : ℕ) where
 pub machine-bytes : {z : ℤ} → SFits w64 z → length (writtenNumber z) ≤ 20
 machine-bytes {z} fits = omega (arith, written-within 18 z (omega (arith, fits-abs fits)))
 
+-- ---- the bytes of marks, one after the other
+
+pub marks-over : (marks : ℕ) → markBytes 0 marks ≡ 0
+unfolding markBytes
+marks-over marks = refl
+
+pub marks-next : (count marks : ℕ) → markBytes (suc count) marks ≡ marks % 2 + markBytes count (marks / 2)
+unfolding markBytes
+marks-next count marks = refl
+
+-- no mark is left
+pub marks-left : (count : ℕ) → markBytes count 0 ≡ 0
+unfolding markBytes
+marks-left zero = refl
+marks-left (suc count) = omega (arith, marks-left count)
+
 -- ---- the bytes of lines
 
+marked-lines-length : (keys : List (List ℕ)) (values : List ℤ) (marks : ℕ) → length values ≡ length keys → length (writtenMarkedLines keys (markedBy marks values)) ≡ keyBytes keys + length keys + numberBytes values + markBytes (length keys) marks
+unfolding numberBytes markBytes
+marked-lines-length [] [] marks e = ap length (no-marked-keys (markedBy marks []))
+marked-lines-length [] (z ∷ values) marks e = absurd (omega arith)
+marked-lines-length (key ∷ keys) [] marks e = absurd (omega arith)
+marked-lines-length (key ∷ keys) (z ∷ values) marks e =
+    let first : Marked = record { number = z; suspect = firstMarked marks } in
+    omega (
+      arith,
+      ap length (ap (writtenMarkedLines (key ∷ keys)) (by-first marks z values) ∙ first-marked-line key keys first (markedBy (marks / 2) values)),
+      length-append (writtenMarkedLine key first) (writtenMarkedLines keys (markedBy (marks / 2) values)),
+      marked-line-length key z (firstMarked marks),
+      first-mark marks,
+      marked-lines-length keys values (marks / 2) (omega arith),
+    )
+
 lines-length : (keys : List (List ℕ)) (values : List ℤ) → length values ≡ length keys → length (writtenNumbers keys values) ≡ keyBytes keys + length keys + numberBytes values
-unfolding numberBytes
-lines-length [] [] e = ap length (no-keys [])
-lines-length [] (z ∷ values) e = absurd (omega arith)
-lines-length (key ∷ keys) [] e = absurd (omega arith)
-lines-length (key ∷ keys) (z ∷ values) e =
-    omega (arith, ap length (first-line key keys z values), length-append (writtenLine key z) (writtenNumbers keys values), line-length key z, lines-length keys values (omega arith))
+lines-length keys values e = omega (arith, ap length (lines-unmarked keys values), marked-lines-length keys values 0 e, marks-left (length keys))
 
 -- only as many values as there are keys are written
-lines-few : (keys : List (List ℕ)) (values : List ℤ) → writtenNumbers keys values ≡ writtenNumbers keys (take (length keys) values)
-lines-few [] values = no-keys values ∙ sym (no-keys [])
-lines-few (key ∷ keys) [] = refl
-lines-few (key ∷ keys) (z ∷ values) = rw (first-line key keys z values, first-line key keys z (take (length keys) values), lines-few keys values)
+marked-few : (keys : List (List ℕ)) (values : List ℤ) (marks : ℕ) → writtenMarkedLines keys (markedBy marks values) ≡ writtenMarkedLines keys (markedBy marks (take (length keys) values))
+marked-few [] values marks = no-marked-keys (markedBy marks values) ∙ sym (no-marked-keys (markedBy marks []))
+marked-few (key ∷ keys) [] marks = refl
+marked-few (key ∷ keys) (z ∷ values) marks =
+    let first : Marked = record { number = z; suspect = firstMarked marks } in
+    rw (
+      by-first marks z values,
+      by-first marks z (take (length keys) values),
+      first-marked-line key keys first (markedBy (marks / 2) values),
+      first-marked-line key keys first (markedBy (marks / 2) (take (length keys) values)),
+      marked-few keys values (marks / 2),
+    )
 
 -- a byte string of so many keys, which have so many bytes with the byte 10 of each line
 pub record KeyBytes (keys : List ℕ) (count bytes : ℕ) : Type 0 where
@@ -82,10 +118,22 @@ module _ {keys : List ℕ} {count bytes : ℕ} (known : KeyBytes keys count byte
       let taken = length-take-le count values enough in
       omega (arith, lines-length (keysOf keys) (take count values) (omega (arith, known .counted)), known .long, known .counted)
 
+  pub marked-lines-bytes : (marks : ℕ) → count ≤ length values → length (writtenMarkedLines (keysOf keys) (markedBy marks (take count values))) ≡ bytes + numberBytes (take count values) + markBytes count marks
+  marked-lines-bytes marks enough =
+      let taken = length-take-le count values enough in
+      omega (
+        arith,
+        marked-lines-length (keysOf keys) (take count values) marks (omega (arith, known .counted)),
+        known .long,
+        known .counted,
+        ap (λ (n : ℕ). markBytes n marks) (known .counted),
+      )
+
   -- the lines of a schema by these keys, where more values are held
-  pub first-lines : {fields : List (Field ℤ)} {schema : Schema fields} → Keys schema keys → (held : ℕ) → count ≤ held → textOf (checkedLines fields (take held values)) ≡ writtenNumbers (keysOf keys) (take count values)
-  first-lines {fields} these held more =
-      text-written fields (take held values)
-      ∙ schema-written these (take held values)
-      ∙ lines-few (keysOf keys) (take held values)
+  pub first-marked-lines :
+      {fields : List (Field Marked)} {most : ℕ} → MarkedWidths fields (keysOf keys) most → (marks held : ℕ) → count ≤ held →
+      textOf (checkedLines fields (markedBy marks (take held values))) ≡ writtenMarkedLines (keysOf keys) (markedBy marks (take count values))
+  first-marked-lines these marks held more =
+      marked-text these (markedBy marks (take held values))
+      ∙ marked-few (keysOf keys) (take held values) marks
       ∙ rw (known .counted, take-take count held values more)

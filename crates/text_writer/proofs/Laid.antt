@@ -1,5 +1,5 @@
 -- Laws of texts laid into a buffer: nothing, one byte, and two texts of which one follows the other, laid in either order.
-use Prim.Native.Nat.{ℕ, _+_, _≤_, _<_}
+use Prim.Native.Nat.{ℕ, _+_, _-_, _≤_, _<_}
 use native.Mathlib.Nat.{add-zero, add-assoc}
 use native.Mathlib.Numerals.{add-one}
 use native.Mathlib.Omega.{arith}
@@ -27,6 +27,16 @@ module _ (buffer : List ℕ) (at : ℕ) (one : List ℕ) (room : at + length one
   laid-behind k =
       ap (λ (n : ℕ). drop (n + k) (laidAt buffer at one)) (sym front-length) ∙
       drop-append-add (take at buffer ++ one) (drop (at + length one) buffer) k ∙ drop-drop k (at + length one) buffer
+
+  -- and those before it
+  pub laid-ahead : take at (laidAt buffer at one) ≡ take at buffer
+  laid-ahead = rw (append-assoc (take at buffer) one (drop (at + length one) buffer)) (take-at (take at buffer) (one ++ drop (at + length one) buffer) at (length-take-le at buffer (omega arith)))
+
+  -- a text laid over another one that is no longer
+  pub laid-again : (other : List ℕ) → length one ≤ length other → laidAt (laidAt buffer at one) at other ≡ laidAt buffer at other
+  laid-again other longer =
+      let behind : at + length other ≡ at + length one + (length other - length one) = omega arith in
+      rw (laid-ahead, behind, laid-behind (length other - length one))
 
   -- a text laid behind another one
   pub laid-then : (other : List ℕ) → laidAt (laidAt buffer at one) (at + length one) other ≡ laidAt buffer at (one ++ other)

@@ -5,5 +5,6 @@ pub mod Writing
 pub mod Refused
 pub mod BySchema
 pub mod ShortLines
+pub mod MarkedLines
 pub mod Counted
 pub mod Rows

@@ -9,7 +9,7 @@ use lib.IntN.{ℤ, pos, negsuc, natAbs}
 use lib.Dec.{leb, le→leb}
 use lib.Signed.{ltZ, leZ-yes, <ℤ-irrefl, <ℤ-≤ℤ-trans}
 use lib.ListN.{length, take, drop, getD, set, length-append, length-set, length-drop, drop-of-length-le}
-use lib.Seq.{drop-cons, drop-at, length-take-le, take-at}
+use lib.Seq.{drop-cons, drop-at, length-take-le}
 use mir.Val.{boolByte}
 use borrow.Author.Tests.{le-leb, lt-leb, leb-true}
 use Rattle.integer.proofs.Order.{ltZ-true, ltZ-false}
@@ -22,7 +22,7 @@ use Rattle.text_writer.specs.declared.Written.{Written}
 use Rattle.text_writer.specs.declared.Written.the-variants as written
 use Rattle.text_number.proofs.WrittenDigits.{digits-one, digits-more, written-natural, written-below}
 use Rattle.text_line.proofs.Pieces.{piece-none, piece-next, piece-fits}
-use Rattle.text_writer.proofs.Laid.{laid-none, laid-behind, laid-less}
+use Rattle.text_writer.proofs.Laid.{laid-none, laid-behind, laid-ahead, laid-less}
 
 -- ---- a number by its sign and magnitude
 
@@ -150,7 +150,7 @@ pub no-keys : (values : List ℤ) → writtenNumbers [] values ≡ []
 unfolding writtenNumbers
 no-keys values = refl
 
-no-values : (keys : List (List ℕ)) → writtenNumbers keys [] ≡ []
+pub no-values : (keys : List (List ℕ)) → writtenNumbers keys [] ≡ []
 unfolding writtenNumbers
 no-values [] = refl
 no-values (key ∷ keys) = refl
@@ -231,7 +231,5 @@ pub bytes-before-stay : {text buffer : List ℕ} {at : ℕ} {after : List ℕ} {
 bytes-before-stay {text} {buffer} {at} {after} done = go (leb (at + length text) (length buffer)) refl (done .bytes)
   where
     go : (b : Bool) → leb (at + length text) (length buffer) ≡ b → after ≡ cond b (laidAt buffer at text) buffer → take at after ≡ take at buffer
-    go true e is =
-        let front : length (take at buffer) ≡ at = length-take-le at buffer (omega (arith, leb-true (at + length text) (length buffer) e)) in
-        rw (is, append-assoc (take at buffer) text (drop (at + length text) buffer)) (take-at (take at buffer) (text ++ drop (at + length text) buffer) at front)
+    go true e is = rw is (laid-ahead buffer at text (leb-true (at + length text) (length buffer) e))
     go false e is = rw is

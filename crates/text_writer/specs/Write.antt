@@ -7,6 +7,7 @@ use lib.IntN.{ℤ}
 use lib.ListN.{length, take, drop}
 use mathlib.Core.Bool.{cond}
 use Rattle.text_number.specs.Number.{writtenNumber}
+use Rattle.text_number.specs.Marked.{Marked, writtenMarked}
 use Rattle.text_schema.specs.Schema.{keysOf}
 use Rattle.text_writer.specs.declared.Written.{Written}
 use Rattle.text_writer.specs.declared.Written.the-variants as written
@@ -20,6 +21,15 @@ unfoldable pub writtenNumbers : List (List ℕ) → List ℤ → List ℕ
 writtenNumbers [] values = []
 writtenNumbers (key ∷ keys) [] = []
 writtenNumbers (key ∷ keys) (value ∷ values) = writtenLine key value ++ writtenNumbers keys values
+
+-- the same of numbers that may be marked suspect
+abbrev pub writtenMarkedLine : List ℕ → Marked → List ℕ
+writtenMarkedLine key value = key ++ writtenMarked value ++ (10 ∷ [])
+
+unfoldable pub writtenMarkedLines : List (List ℕ) → List Marked → List ℕ
+writtenMarkedLines [] values = []
+writtenMarkedLines (key ∷ keys) [] = []
+writtenMarkedLines (key ∷ keys) (value ∷ values) = writtenMarkedLine key value ++ writtenMarkedLines keys values
 
 -- a text in place of as many bytes of a buffer, from a position on
 abbrev pub laidAt : List ℕ → ℕ → List ℕ → List ℕ

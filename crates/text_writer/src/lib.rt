@@ -14,6 +14,7 @@ use integer::magnitude;
 use text_line::piece::piece_end;
 
 pub mod line;
+pub mod marked;
 pub mod output;
 pub mod row;
 

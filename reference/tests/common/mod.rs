@@ -1,6 +1,8 @@
 //! Texts and values that several tests use.
 #![allow(dead_code)]
 
+pub mod held;
+
 use reference::{book, price_snapshot, CurveSet, Group, Record, Refusal, GROUPS};
 use std::io::Write;
 use std::process::{Command, Stdio};

@@ -5,6 +5,8 @@ use mathlib.Core.Path.{_≡_, refl, sym, ap, _∙_}
 use denote.Ref.{now}
 use borrow.Author.Needs.{needs}
 use Rattle.text_line.specs.Field.{got}
+use Rattle.text_number.specs.Marked.{markedBy}
+use Rattle.text_number.proofs.Marks.{by-numbers}
 use Rattle.text_schema.specs.Schema.{laidOver}
 use Rattle.pricing_sums.specs.Header.{headerValues}
 use Rattle.pricing_resource_text.specs.Resource.{resourceAt}
@@ -24,7 +26,7 @@ lines c = snapshot-lines (now (c .args .text)) (c .pre .is)
 lay-numbers-requires : tie.Need-lay-numbers-requires
 lay-numbers-requires c κs =
     let s = c .before .before .before .before in
-    ((headerValues (s .pre .header), (lines s .next, header-stands (now (s .args .text)) (lines s .header-read))), search needs)
+    ((markedBy 0 (headerValues (s .pre .header)), (lines s .next, header-stands (now (s .args .text)) (lines s .header-read))), search needs, search needs)
 
 moved :
     (text : List ℕ) {count due at next : ℕ} {entries : List Entry} {last : ℕ} → count ≡ due → at ≡ next → resourcesAt resourceAt due [] text next ≡ got entries last →
@@ -36,10 +38,12 @@ module _ (c : tie.After-lay-numbers) where
   abbrev start : tie.Start
   start = c .before .before .before .before .before
 
-  header-laid : (c .lay-numbers .result ≡ lines start .next) × (c .lay-numbers .last .1 .1 .1 .0 ≡ headerValues (start .pre .header))
-  header-laid = c .lay-numbers .ensures (headerValues (start .pre .header)) (lines start .next) (header-stands (now (start .args .text)) (lines start .header-read))
+  header-laid : (c .lay-numbers .result .next ≡ lines start .next) × (c .lay-numbers .last .1 .1 .1 .0 ≡ headerValues (start .pre .header))
+  header-laid =
+      let said = c .lay-numbers .ensures (markedBy 0 (headerValues (start .pre .header))) (lines start .next) (header-stands (now (start .args .text)) (lines start .header-read)) in
+      (ap (λ r. r .next) (said .0), said .1 ∙ by-numbers 0 (headerValues (start .pre .header)))
 
-  rows-read : resourcesAt resourceAt (start .args .count) [] (now (start .args .text)) (c .lay-numbers .result) ≡ got (start .pre .entries) (lines start .last)
+  rows-read : resourcesAt resourceAt (start .args .count) [] (now (start .args .text)) (c .lay-numbers .result .next) ≡ got (start .pre .entries) (lines start .last)
   rows-read = moved (now (start .args .text)) (start .pre .counted) (header-laid .0) (lines start .entries-read)
 
 lay-rows-requires : tie.Need-lay-rows-requires

@@ -1,11 +1,12 @@
 -- Internal: what stands in a text that was read already, so that its values are taken with one look at each byte.
 use Prim.Native.Nat.{ℕ, _+_, _*_, _≤_}
+use mathlib.Core.Bool.{Bool}
 use mathlib.Core.Path.{_≡_}
 use mathlib.Core.List.{List, [], _∷_, _++_}
-use lib.IntN.{ℤ, natAbs}
+use lib.IntN.{ℤ, pos, natAbs}
 use lib.ListN.{length, drop}
 use Rattle.text_line.specs.Field.{LineAnswer, got}
-use Rattle.text_number.specs.Number.{digitsOf, writtenNumber}
+use Rattle.text_number.specs.Marked.{Marked, writtenMarked}
 use Rattle.text_schema.specs.Schema.{laidOver}
 use Rattle.pricing_sums.specs.declared.header.Header.{Header}
 use Rattle.pricing_snapshot.specs.Snapshot.{Entry, SnapshotAnswer, read}
@@ -26,21 +27,21 @@ pub record Stands (text : List ℕ) (at : ℕ) (bytes : List ℕ) (next : ℕ) :
   pub next-is : next ≡ at + length bytes + 1
   pub there : drop at text ≡ bytes ++ (10 ∷ drop next text)
 
--- the digits of a number, and a number with its sign, small enough for a machine word
-pub record DigitsStand (text : List ℕ) (at n next : ℕ) : Type 0 where
+-- a number with its mark, if it has one: one not below zero, of which digits alone stand before the mark, and any one; small enough for a machine word
+pub record DigitsStand (text : List ℕ) (at n : ℕ) (suspect : Bool) (next : ℕ) : Type 0 where
   pub small : n ≤ 1000000000
-  pub stands : Stands text at (digitsOf n) next
+  pub stands : Stands text at (writtenMarked (record { number = pos n; suspect = suspect })) next
 
-pub record NumberStands (text : List ℕ) (at : ℕ) (z : ℤ) (next : ℕ) : Type 0 where
-  pub small : natAbs z ≤ 1000000000
-  pub stands : Stands text at (writtenNumber z) next
+pub record NumberStands (text : List ℕ) (at : ℕ) (m : Marked) (next : ℕ) : Type 0 where
+  pub small : natAbs (m .number) ≤ 1000000000
+  pub stands : Stands text at (writtenMarked m) next
 
 -- numbers stand one after the other, each behind a key of so many bytes
-abbrev pub NumbersStand : List ℕ → ℕ → List ℕ → List ℤ → ℕ → Type 0
+abbrev pub NumbersStand : List ℕ → ℕ → List ℕ → List Marked → ℕ → Type 0
 NumbersStand text at [] [] last = at ≡ last
-NumbersStand text at [] (z ∷ values) last = ⊥
+NumbersStand text at [] (m ∷ values) last = ⊥
 NumbersStand text at (size ∷ sizes) [] last = ⊥
-NumbersStand text at (size ∷ sizes) (z ∷ values) last = (next : ℕ) × NumberStands text (at + size) z next × NumbersStand text next sizes values last
+NumbersStand text at (size ∷ sizes) (m ∷ values) last = (next : ℕ) × NumberStands text (at + size) m next × NumbersStand text next sizes values last
 
 -- ---- a snapshot that was read, with rows enough for its resources, and laid
 

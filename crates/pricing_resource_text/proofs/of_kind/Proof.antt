@@ -1,7 +1,7 @@
 use Prim.Native.Nat.{ℕ, zero, suc}
 use mathlib.Core.List.{List}
 use mathlib.Core.Path.{_≡_, refl, ap, sym, _∙_}
-use Rattle.pricing_resource_text.specs.Resource.{loadFields, loadOf, linesAs, ofKind}
+use Rattle.pricing_resource_text.specs.Resource.{loadFields, loadOf, withMarks, linesAs, ofKind}
 use Rattle.pricing_resource_text.proofs.of_kind.Statement.{statement}
 use Rattle.pricing_resource_text.proofs.of_kind.Tie as tie
 
@@ -38,7 +38,7 @@ returns-4 c = rw (c .before .match .keys4) (c .generator-at4 .ensures)
 returns-5 : tie.Need-returns-5
 returns-5 c = rw (c .before .match .keys5) (c .controllable-at .ensures)
 
-of-load : (text : List ℕ) (k at : ℕ) → (k ≡ 0 → ⊥) → (k ≡ 1 → ⊥) → (k ≡ 2 → ⊥) → (k ≡ 3 → ⊥) → (k ≡ 4 → ⊥) → linesAs loadOf loadFields text at ≡ ofKind text k at
+of-load : (text : List ℕ) (k at : ℕ) → (k ≡ 0 → ⊥) → (k ≡ 1 → ⊥) → (k ≡ 2 → ⊥) → (k ≡ 3 → ⊥) → (k ≡ 4 → ⊥) → linesAs (withMarks loadOf) loadFields text at ≡ ofKind text k at
 of-load text zero at e f g h i = absurd (e refl)
 of-load text (suc zero) at e f g h i = absurd (f refl)
 of-load text (suc (suc zero)) at e f g h i = absurd (g refl)

@@ -1,58 +1,73 @@
 use native.Mathlib.Omega.{arith}
-use mathlib.Core.Path.{refl, _∙_}
-use Rattle.text_refusal.specs.Bytes.{bytes}
+use mathlib.Core.Path.{refl}
+use denote.Ref.{now}
 use Rattle.pricing_resource_text.specs.Resource.{controllableOf, controllableFields}
-use Rattle.pricing_resource_text.proofs.Small.{controllable-small}
-use Rattle.pricing_resource_text.proofs.Lines.{controllableSchema, lines-made, lines-small}
+use Rattle.pricing_resource_text.specs.internal.Marks.{MarksRead}
+use Rattle.pricing_resource_text.proofs.Small.{controllable-small, numbers-small}
+use Rattle.pricing_resource_text.proofs.Lines.{controllable-few, controllable-is}
+use Rattle.pricing_resource_text.proofs.Marking.{made-read, made-refused}
 use Rattle.pricing_resource_text.proofs.kinds.controllable_at.Statement.{statement}
 use Rattle.pricing_resource_text.proofs.kinds.controllable_at.Tie as tie
 
-slice-aggregate-read-lines : tie.Need-slice-aggregate-read-lines
-slice-aggregate-read-lines c = refl
+slice-aggregate-read-numbers : tie.Need-slice-aggregate-read-numbers
+slice-aggregate-read-numbers c = refl
 
-slice-aggregate-read-lines-2 : tie.Need-slice-aggregate-read-lines-2
-slice-aggregate-read-lines-2 c = refl
+slice-aggregate-read-numbers-2 : tie.Need-slice-aggregate-read-numbers-2
+slice-aggregate-read-numbers-2 c = refl
 
-slice-aggregate-read-lines-3 : tie.Need-slice-aggregate-read-lines-3
-slice-aggregate-read-lines-3 c = refl
+slice-aggregate-read-numbers-3 : tie.Need-slice-aggregate-read-numbers-3
+slice-aggregate-read-numbers-3 c = refl
 
-slice-aggregate-read-lines-4 : tie.Need-slice-aggregate-read-lines-4
-slice-aggregate-read-lines-4 c = refl
+slice-aggregate-read-numbers-4 : tie.Need-slice-aggregate-read-numbers-4
+slice-aggregate-read-numbers-4 c = refl
 
-read-lines-requires : tie.Need-read-lines-requires
-read-lines-requires c κs = tt
+read-numbers-requires : tie.Need-read-numbers-requires
+read-numbers-requires c κs = controllable-few
+
+enum-known-b : tie.Need-enum-known-b
+enum-known-b c = c .match .keys1
+
+enum-known-b-2 : tie.Need-enum-known-b-2
+enum-known-b-2 c = c .match .keys2
+
+-- the lines were read by the fields of the kind
+abbrev begun : tie.After-read-numbers → tie.Start
+begun c = c .before .before .before .before .before .before
+
+lines : (c : tie.After-read-numbers) → MarksRead controllableFields (now (begun c .args .text)) (begun c .args .at) (c .read-numbers .last .1 .1 .1 .1 .1 .1 .0) (c .read-numbers .result)
+lines c = rw controllable-is at (c .read-numbers .ensures)
 
 slice-aggregate-controllable-of : tie.Need-slice-aggregate-controllable-of
 slice-aggregate-controllable-of c = omega arith
 
 controllable-of-requires : tie.Need-controllable-of-requires
-unfolding controllableSchema controllableFields
 controllable-of-requires c κs =
-    let read = c .before .before in
-    let a = read .before .before .before .before .before .before .args in
-    (omega arith, lines-small controllableSchema (a .text .now) (a .at) (read .read-lines .ensures) controllable-small)
-
-lines-of-requires : tie.Need-lines-of-requires
-lines-of-requires c κs = tt
+    let read = c .before .before .before .before .before in
+    let told = lines read .taken _ _ (c .before .before .b2 .given .1) in
+    (omega arith, rw (told .1 .1) (numbers-small controllableFields controllable-small (now (begun read .args .text)) (begun read .args .at)))
 
 returns : tie.Need-returns
-unfolding controllableSchema controllableFields
 returns c =
     let read = c .before .before .before .before in
-    let a = read .before .before .before .before .before .before .args in
-    c .lines-of .ensures
-    ∙ lines-made controllableSchema (a .text .now) (a .at) (read .read-lines .ensures) controllableOf (c .before .controllable-of .ensures)
+    made-refused controllableOf (lines read) (c .before .b .given .1)
+
+returns-2 : tie.Need-returns-2
+returns-2 c =
+    let read = c .before .before .before .before .before .before in
+    made-read controllableOf (lines read) (c .before .before .before .b2 .given .1) (c .controllable-of .ensures)
 
 pub controllable-at-spec : {M : Type 1} → statement M
 controllable-at-spec =
     tie.close
     (tie.spec
-    slice-aggregate-read-lines
-    slice-aggregate-read-lines-2
-    slice-aggregate-read-lines-3
-    slice-aggregate-read-lines-4
-    read-lines-requires
+    slice-aggregate-read-numbers
+    slice-aggregate-read-numbers-2
+    slice-aggregate-read-numbers-3
+    slice-aggregate-read-numbers-4
+    read-numbers-requires
+    enum-known-b
+    enum-known-b-2
     slice-aggregate-controllable-of
     controllable-of-requires
-    lines-of-requires
-    returns)
+    returns
+    returns-2)

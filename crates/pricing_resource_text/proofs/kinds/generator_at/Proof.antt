@@ -10,7 +10,7 @@ use Rattle.text_word.proofs.Words.{word-got, word-within, word-refused}
 use Rattle.pricing_resource.specs.declared.Kind.{Kind}
 use Rattle.pricing_resource.specs.declared.Status.{Status}
 use Rattle.pricing_resource.specs.declared.Resource.{Resource}
-use Rattle.pricing_resource_text.specs.Resource.{statusWords, statusField, statusOf, generatorFields, generatorOf, linesAs, generatorAt}
+use Rattle.pricing_resource_text.specs.Resource.{statusWords, statusField, statusOf, generatorFields, generatorOf, withMarks, linesAs, generatorAt}
 use Rattle.pricing_resource_text.proofs.Lines.{then-refused, then-more}
 use Rattle.pricing_resource_text.proofs.kinds.generator_at.Statement.{statement}
 use Rattle.pricing_resource_text.proofs.kinds.generator_at.Tie as tie
@@ -48,7 +48,7 @@ kind c = c .before .before .before .before .args .kind
 
 -- after the status: the lines of its fields
 abbrev after-status : Kind → List ℕ → ℕ → ℕ → LineAnswer Resource
-after-status kind text status next = linesAs (generatorOf kind (statusOf status)) generatorFields text next
+after-status kind text status next = linesAs (withMarks (generatorOf kind (statusOf status))) generatorFields text next
 
 returns : tie.Need-returns
 returns c =
@@ -83,7 +83,7 @@ generator-lines-requires c κs = tt
 read-on :
     (kind : Kind) (text : List ℕ) (at : ℕ) {index next : ℕ} {status : Status} {answer : LineAnswer Resource} →
     got index next ≡ fieldAt statusField text at → status ≡ statusOf index →
-    answer ≡ linesAs (generatorOf kind status) generatorFields text next → answer ≡ generatorAt kind text at
+    answer ≡ linesAs (withMarks (generatorOf kind status)) generatorFields text next → answer ≡ generatorAt kind text at
 read-on kind text at read is given = rw (given, is) (then-more (after-status kind text) read)
 
 returns-2 : tie.Need-returns-2

@@ -1,58 +1,75 @@
 use native.Mathlib.Omega.{arith}
-use mathlib.Core.Path.{refl, _∙_}
-use Rattle.text_refusal.specs.Bytes.{bytes}
+use mathlib.Core.Path.{refl}
+use denote.Ref.{now}
 use Rattle.pricing_resource_text.specs.Resource.{generatorOf, generatorFields}
-use Rattle.pricing_resource_text.proofs.Small.{generator-small}
-use Rattle.pricing_resource_text.proofs.Lines.{generatorSchema, lines-made, lines-small}
+use Rattle.pricing_resource_text.specs.internal.Marks.{MarksRead}
+use Rattle.pricing_resource_text.proofs.Small.{generator-small, numbers-small}
+use Rattle.pricing_resource_text.proofs.Lines.{generator-few, generator-is}
+use Rattle.pricing_resource_text.proofs.Marking.{made-read, made-refused}
 use Rattle.pricing_resource_text.proofs.kinds.generator_lines.Statement.{statement}
 use Rattle.pricing_resource_text.proofs.kinds.generator_lines.Tie as tie
 
-slice-aggregate-read-lines : tie.Need-slice-aggregate-read-lines
-slice-aggregate-read-lines c = refl
+slice-aggregate-read-numbers : tie.Need-slice-aggregate-read-numbers
+slice-aggregate-read-numbers c = refl
 
-slice-aggregate-read-lines-2 : tie.Need-slice-aggregate-read-lines-2
-slice-aggregate-read-lines-2 c = refl
+slice-aggregate-read-numbers-2 : tie.Need-slice-aggregate-read-numbers-2
+slice-aggregate-read-numbers-2 c = refl
 
-slice-aggregate-read-lines-3 : tie.Need-slice-aggregate-read-lines-3
-slice-aggregate-read-lines-3 c = refl
+slice-aggregate-read-numbers-3 : tie.Need-slice-aggregate-read-numbers-3
+slice-aggregate-read-numbers-3 c = refl
 
-slice-aggregate-read-lines-4 : tie.Need-slice-aggregate-read-lines-4
-slice-aggregate-read-lines-4 c = refl
+slice-aggregate-read-numbers-4 : tie.Need-slice-aggregate-read-numbers-4
+slice-aggregate-read-numbers-4 c = refl
 
-read-lines-requires : tie.Need-read-lines-requires
-read-lines-requires c κs = tt
+read-numbers-requires : tie.Need-read-numbers-requires
+read-numbers-requires c κs = generator-few
+
+enum-known-b : tie.Need-enum-known-b
+enum-known-b c = c .match .keys1
+
+enum-known-b-2 : tie.Need-enum-known-b-2
+enum-known-b-2 c = c .match .keys2
+
+-- the lines were read by the fields of the kind
+abbrev begun : tie.After-read-numbers → tie.Start
+begun c = c .before .before .before .before .before .before
+
+lines : (c : tie.After-read-numbers) → MarksRead generatorFields (now (begun c .args .text)) (begun c .args .at) (c .read-numbers .last .1 .1 .1 .1 .1 .1 .0) (c .read-numbers .result)
+lines c = rw generator-is at (c .read-numbers .ensures)
 
 slice-aggregate-generator-of : tie.Need-slice-aggregate-generator-of
 slice-aggregate-generator-of c = omega arith
 
 generator-of-requires : tie.Need-generator-of-requires
-unfolding generatorSchema generatorFields
 generator-of-requires c κs =
-    let read = c .before .before in
-    let a = read .before .before .before .before .before .before .args in
-    (omega arith, lines-small generatorSchema (a .text .now) (a .at) (read .read-lines .ensures) generator-small)
-
-lines-of-requires : tie.Need-lines-of-requires
-lines-of-requires c κs = tt
+    let read = c .before .before .before .before .before in
+    let told = lines read .taken _ _ (c .before .before .b2 .given .1) in
+    (omega arith, rw (told .1 .1) (numbers-small generatorFields generator-small (now (begun read .args .text)) (begun read .args .at)))
 
 returns : tie.Need-returns
-unfolding generatorSchema generatorFields
 returns c =
     let read = c .before .before .before .before in
-    let a = read .before .before .before .before .before .before .args in
-    c .lines-of .ensures
-    ∙ lines-made generatorSchema (a .text .now) (a .at) (read .read-lines .ensures) (generatorOf (a .kind) (a .status)) (c .before .generator-of .ensures)
+    let a = begun read .args in
+    made-refused (generatorOf (a .kind) (a .status)) (lines read) (c .before .b .given .1)
+
+returns-2 : tie.Need-returns-2
+returns-2 c =
+    let read = c .before .before .before .before .before .before in
+    let a = begun read .args in
+    made-read (generatorOf (a .kind) (a .status)) (lines read) (c .before .before .before .b2 .given .1) (c .generator-of .ensures)
 
 pub generator-lines-spec : {M : Type 1} → statement M
 generator-lines-spec =
     tie.close
     (tie.spec
-    slice-aggregate-read-lines
-    slice-aggregate-read-lines-2
-    slice-aggregate-read-lines-3
-    slice-aggregate-read-lines-4
-    read-lines-requires
+    slice-aggregate-read-numbers
+    slice-aggregate-read-numbers-2
+    slice-aggregate-read-numbers-3
+    slice-aggregate-read-numbers-4
+    read-numbers-requires
+    enum-known-b
+    enum-known-b-2
     slice-aggregate-generator-of
     generator-of-requires
-    lines-of-requires
-    returns)
+    returns
+    returns-2)

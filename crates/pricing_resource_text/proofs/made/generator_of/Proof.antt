@@ -23,7 +23,7 @@ number-requires-6 c κs = (omega (arith, c .before .before .before .before .befo
 
 returns : tie.Need-returns
 returns c =
-    generator-same (c .before .before .before .before .before .before .args .kind) (c .before .before .before .before .before .before .args .status)
+    generator-same (c .before .before .before .before .before .before .args .kind) (c .before .before .before .before .before .before .args .status) (c .before .before .before .before .before .before .args .marks)
     (number-is (c .before .before .before .before .before .number .ok) (c .before .before .before .before .before .number .ensures))
     (number-is (c .before .before .before .before .number2 .ok) (c .before .before .before .before .number2 .ensures))
     (number-is (c .before .before .before .number3 .ok) (c .before .before .before .number3 .ensures))

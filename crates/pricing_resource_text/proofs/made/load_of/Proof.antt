@@ -17,7 +17,7 @@ number-requires-4 c κs = (omega (arith, c .before .before .before .pre .0), c .
 
 returns : tie.Need-returns
 returns c =
-    load-same
+    load-same (c .before .before .before .before .args .marks)
     (number-is (c .before .before .before .number .ok) (c .before .before .before .number .ensures))
     (number-is (c .before .before .number2 .ok) (c .before .before .number2 .ensures))
     (number-is (c .before .number3 .ok) (c .before .number3 .ensures))

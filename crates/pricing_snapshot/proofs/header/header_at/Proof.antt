@@ -1,5 +1,4 @@
 use mathlib.Core.Path.{refl}
-use Rattle.text_refusal.specs.Bytes.{bytes}
 use Rattle.pricing_snapshot.specs.Snapshot.{headerFields}
 use Rattle.pricing_snapshot.proofs.Snapshots.{headerSchema, header-ends, header-filled}
 use Rattle.pricing_snapshot.proofs.header.header_at.Statement.{statement}

@@ -3,15 +3,15 @@ use native.Mathlib.Omega.{arith}
 use mathlib.Core.Path.{_∙_}
 use mir.Syntax.{w64}
 use mir.Val.{Fits}
-use Rattle.pricing_snapshot.proofs.Summing.{Summing, summing-start, summing-room, summing-within, summing-stop, summing-next, summing-over}
+use Rattle.pricing_snapshot.proofs.Summing.{Summing, summing-start, summing-room, summing-within, summing-lines, summing-stop, summing-next, summing-over}
 use Rattle.pricing_snapshot.proofs.resources.resources_at.Statement.{statement}
 use Rattle.pricing_snapshot.proofs.resources.resources_at.Tie as tie
 
 abbrev Inv-loop : tie.InvT-loop
-Inv-loop text at count starts₀ sums₀ next₀ n₀ starts sums next n = Summing text at count starts₀ starts sums next n
+Inv-loop text at count starts₀ tally₀ next₀ n₀ starts tally next n = Summing text at count starts₀ starts tally next n
 
 abbrev μ-loop : tie.MeasureT-loop
-μ-loop text at count starts₀ sums₀ next₀ n₀ starts sums next n = count - n
+μ-loop text at count starts₀ tally₀ next₀ n₀ starts tally next n = count - n
 
 loop-holds : tie.Need-loop-holds Inv-loop μ-loop
 loop-holds c = let start = c .before .before in summing-start (start .args .text .now) (start .args .at) (start .args .count) (start .pre .0) (start .pre .1)
@@ -20,7 +20,7 @@ new-id-requires : tie.Need-new-id-requires Inv-loop μ-loop
 new-id-requires c κs = let turn = c .before in summing-room (turn .before .loop .inv) (turn .loop-test .taken)
 
 with-resource-requires : tie.Need-with-resource-requires Inv-loop μ-loop
-with-resource-requires c κs = let turn = c .before .before .before .before in summing-within (turn .before .loop .inv) (turn .loop-test .taken)
+with-resource-requires c κs = let turn = c .before .before .before .before in (summing-within (turn .before .loop .inv) (turn .loop-test .taken), summing-lines (turn .before .loop .inv) (turn .loop-test .taken))
 
 enum-known-r : tie.Need-enum-known-r Inv-loop μ-loop
 enum-known-r c = c .match .keys1

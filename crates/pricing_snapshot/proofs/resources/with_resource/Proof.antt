@@ -28,23 +28,20 @@ returns-2 c value =
 enum-known-r-2 : tie.Need-enum-known-r-2
 enum-known-r-2 c = c .match2 .keys2
 
-part-of-requires : tie.Need-part-of-requires
-part-of-requires c κs = tt
-
-plus-requires : tie.Need-plus-requires
-plus-requires c κs =
-    let told = c .before .before .r2 .given in
-    let at-resource = c .before .before .before .before in
+tally-with-requires : tie.Need-tally-with-requires
+tally-with-requires c κs =
+    let told = c .before .r2 .given in
+    let at-resource = c .before .before .before in
     let id = at-resource .before .before in
     let start = id .before .before .before in
     let read = sym (at-resource .resource-at .ensures) ∙ ap linesAnswer (told .1) in
-    (start .pre, rw (c .part-of .ensures) (part-within (told .0 .0) (resource-read (start .args .text .now) (id .id2 .given .0 .0) read)))
+    (start .pre .0, (part-within (told .0 .0) (resource-read (start .args .text .now) (id .id2 .given .0 .0) read), start .pre .1))
 
 returns-3 : tie.Need-returns-3
 returns-3 c value =
-    let part = c .before in
-    let at-resource = part .before .before .before .before in
-    rw (at-resource .before .before .id2 .given .1, ← at-resource .resource-at .ensures, part .before .before .r2 .given .1, c .plus .ensures, part .part-of .ensures)
+    let told = c .before .before in
+    let at-resource = told .before .before in
+    rw (at-resource .before .before .id2 .given .1, ← at-resource .resource-at .ensures, told .r2 .given .1, c .tally-with .ensures)
 
 pub with-resource-spec : {M : Type 1} → statement M
 with-resource-spec =
@@ -57,6 +54,5 @@ with-resource-spec =
     enum-known-r
     returns-2
     enum-known-r-2
-    part-of-requires
-    plus-requires
+    tally-with-requires
     returns-3)

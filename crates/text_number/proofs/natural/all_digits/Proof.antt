@@ -17,8 +17,8 @@ abbrev μ-loop : tie.MeasureT-loop
 loop-holds : tie.Need-loop-holds Inv-loop μ-loop
 loop-holds c = (omega arith, refl)
 
-shared-slice-read-byte : tie.Need-shared-slice-read-byte Inv-loop μ-loop
-shared-slice-read-byte c = omega arith
+shared-slice-read-digit : tie.Need-shared-slice-read-digit Inv-loop μ-loop
+shared-slice-read-digit c = omega arith
 
 returns : tie.Need-returns Inv-loop μ-loop
 returns c =
@@ -50,4 +50,4 @@ returns-3 c =
     sym (l .loop .inv .1 ∙ digits-over (l .before .args .bytes .now) (l .loop .i) (c .loop-test .left))
 
 pub all-digits-spec : {M : Type 1} → statement M
-all-digits-spec = tie.close (tie.spec Inv-loop μ-loop loop-holds shared-slice-read-byte returns returns-2 add-i loop-less loop-again returns-3)
+all-digits-spec = tie.close (tie.spec Inv-loop μ-loop loop-holds shared-slice-read-digit returns returns-2 add-i loop-less loop-again returns-3)
