@@ -16,7 +16,7 @@ use Rattle.pricing_sums.specs.declared.header.Header.{Header}
 use Rattle.pricing_snapshot.specs.Snapshot.{Entry, read, snapshotIn}
 use Rattle.pricing.specs.Pricing.{priced}
 
--- ---- on which units a mark turns the snapshot back
+-- ---- what the statements speak of
 
 -- the same kind, status and flags, which carry no marks; all numbers may differ
 pub data SameUnit : Resource → Resource → Type 0 where
@@ -24,6 +24,20 @@ pub data SameUnit : Resource → Resource → Type 0 where
       {one other : Generator} → one .kind ≡ other .kind → one .status ≡ other .status → one .cold30 ≡ other .cold30 → SameUnit (resource.Generator one) (resource.Generator other)
   same-controllable : {one other : Controllable} → SameUnit (resource.Controllable one) (resource.Controllable other)
   same-load : {one other : Load} → one .rrsok ≡ other .rrsok → SameUnit (resource.Load one) (resource.Load other)
+
+-- one of some entries
+pub data Among (entry : Entry) : List Entry → Type 0 where
+  first-of-them : {others : List Entry} → Among entry (entry ∷ others)
+  later-of-them : {other : Entry} {others : List Entry} → Among entry others → Among entry (other ∷ others)
+
+-- the same ids and the same resources but for their marks
+pub data EntriesSameButMarks : List Entry → List Entry → Type 0 where
+  none-same : EntriesSameButMarks [] []
+  one-same :
+      {first second : Entry} {others others′ : List Entry} → first .id ≡ second .id → withoutMarks (first .resource) ≡ withoutMarks (second .resource) →
+      EntriesSameButMarks others others′ → EntriesSameButMarks (first ∷ others) (second ∷ others′)
+
+-- ---- on which units a mark turns the snapshot back
 
 -- no verdict hangs on a number that may be marked
 abbrev pub VerdictsRestOnNoMarkedNumber : Type 0
@@ -35,23 +49,11 @@ UnitsThatAddAreAmongThem = (one other : Resource) → SameUnit one other → (pa
 
 -- ---- so no marked number enters a price
 
--- one of some entries
-pub data Among (entry : Entry) : List Entry → Type 0 where
-  first-of-them : {others : List Entry} → Among entry (entry ∷ others)
-  later-of-them : {other : Entry} {others : List Entry} → Among entry others → Among entry (other ∷ others)
-
 -- in an accepted snapshot every number of a unit that enters a sum, or would, is unmarked, also where it adds 0
 abbrev pub NoMarkedNumberEntersASum : Type 0
 NoMarkedNumberEntersASum =
     (text : List ℕ) (h : Header) (entries : List Entry) → snapshotIn text ≡ read h entries →
     (entry : Entry) → Among entry entries → marksTurnBack (entry .resource) ≡ true → marks (entry .resource) ≡ 0
-
--- the same ids and the same resources but for their marks
-pub data EntriesSameButMarks : List Entry → List Entry → Type 0 where
-  none-same : EntriesSameButMarks [] []
-  one-same :
-      {first second : Entry} {others others′ : List Entry} → first .id ≡ second .id → withoutMarks (first .resource) ≡ withoutMarks (second .resource) →
-      EntriesSameButMarks others others′ → EntriesSameButMarks (first ∷ others) (second ∷ others′)
 
 -- two accepted snapshots that differ only in marks have the same six numbers
 abbrev pub MarksMoveNoPrice : Type 0

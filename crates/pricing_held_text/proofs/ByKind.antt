@@ -1,9 +1,12 @@
 -- The lines of a row after its kind, by the kind.
 use Prim.Native.Nat.{ℕ, zero, suc, _+_, _≤_, _<_}
 use native.Mathlib.Omega.{arith}
+use mathlib.Core.Bool.{Bool, cond}
 use mathlib.Core.List.{List, [], _∷_, _++_}
-use mathlib.Core.Path.{_≡_, refl, ap, _∙_}
+use mathlib.Core.Path.{_≡_, refl, ap, sym, _∙_}
+use borrow.Author.Tests.{lt-ltb, le-ltb}
 use lib.IntN.{ℤ, natAbs}
+use lib.Dec.{ltb}
 use lib.ListN.{length, take, drop, length-append, length-drop}
 use Rattle.text_refusal.specs.Bytes.{bytes}
 use Rattle.text_number.specs.Marked.{markedBy}
@@ -11,8 +14,9 @@ use Rattle.text_word.specs.Word.{writtenWord}
 use Rattle.text_schema.specs.Schema.{value, keysOf}
 use Rattle.text_schema.specs.Checked.{checkedLine, checkedLines, textOf}
 use Rattle.text_schema.proofs.Checked.{text-first}
-use Rattle.text_writer.specs.Write.{writtenMarkedLines}
+use Rattle.text_writer.specs.Write.{writtenNumbers, writtenMarkedLines}
 use Rattle.text_writer.proofs.Writing.{text-line-length}
+use Rattle.text_writer.proofs.MarkedLines.{lines-unmarked}
 use Rattle.pricing_resource_text.specs.Resource.{statusWords, statusField, generatorFields, loadFields}
 use Rattle.pricing_resource_text.proofs.Places.{generator-widths, controllable-widths, load-widths}
 use Rattle.pricing_held.specs.Rows.{Row, placeOf, markedNumbers}
@@ -20,11 +24,12 @@ use Rattle.pricing_held.specs.Lines.{linesOfKind}
 use Rattle.pricing_held.specs.internal.Checks.{rowOf}
 use Rattle.pricing_held.proofs.RowLines.{of-generator}
 use Rattle.text_writer.specs.internal.Counted.{numberBytes, markBytes}
+use Rattle.pricing_held_text.specs.internal.RowText.{marksOfKind}
 use Rattle.text_writer.proofs.Counted.{KeyBytes, key-bytes, marked-lines-bytes, first-marked-lines}
 
 -- ---- which lines
 
-of-load : (kind : ℕ) (row : Row) → 5 ≤ kind → linesOfKind kind row ≡ checkedLines loadFields (markedNumbers row)
+pub of-load : (kind : ℕ) (row : Row) → 5 ≤ kind → linesOfKind kind row ≡ checkedLines loadFields (markedNumbers row)
 of-load zero row h = absurd (omega arith)
 of-load (suc zero) row h = absurd (omega arith)
 of-load (suc (suc zero)) row h = absurd (omega arith)
@@ -54,6 +59,24 @@ rowMarks values = natAbs (value values 8)
 
 abbrev pub numbersText : List ℕ → ℕ → List ℤ → List ℕ
 numbersText keys count values = writtenMarkedLines (keysOf keys) (markedBy (rowMarks values) (take count (drop 2 values)))
+
+-- the same, as they are handed over
+pub numbers-marked : (keys : List ℕ) (count : ℕ) (values : List ℤ) {marks : ℕ} → marks ≡ rowMarks values → writtenMarkedLines (keysOf keys) (markedBy marks (take count (drop 2 values))) ≡ numbersText keys count values
+numbers-marked keys count values is = rw is
+
+pub numbers-unmarked : (keys : List ℕ) (count : ℕ) (values : List ℤ) → rowMarks values ≡ 0 → writtenNumbers (keysOf keys) (take count (drop 2 values)) ≡ numbersText keys count values
+numbers-unmarked keys count values none = rw none (sym (lines-unmarked (keysOf keys) (take count (drop 2 values))))
+
+-- how many numbers may be marked
+module _ (kind : ℕ) (values : List ℤ) where
+  marks-of : {isGenerator : Bool} → ltb kind 4 ≡ isGenerator → marksOfKind kind values ≡ markBytes (cond isGenerator 6 4) (rowMarks values)
+  marks-of is = rw is
+
+  pub generator-marks : kind < 4 → marksOfKind kind values ≡ markBytes 6 (rowMarks values)
+  generator-marks h = marks-of (lt-ltb kind 4 h)
+
+  pub load-marks : 4 ≤ kind → marksOfKind kind values ≡ markBytes 4 (rowMarks values)
+  load-marks h = marks-of (le-ltb kind 4 h)
 
 module _ (kind : ℕ) (values : List ℤ) where
   abbrev text : List ℕ

@@ -7,6 +7,7 @@ ghost use Rattle.text_writer.specs.Write.{TextLaid};
 ghost use Rattle.pricing_held.specs.Lines.{linesOfKind};
 ghost use Rattle.pricing_held.specs.internal.Checks.{rowOf};
 ghost use Rattle.text_writer.specs.internal.Counted.{numberBytes, markBytes};
+ghost use Rattle.pricing_held_text.specs.internal.RowText.{marksOfKind};
 use crate::next_of;
 use crate::words::put_status;
 use crate::words::status_length;
@@ -14,6 +15,7 @@ use integer::magnitude;
 use pricing_held::place_of;
 use text_writer::marked::write_marked_lines;
 use text_writer::number_length;
+use text_writer::write_lines;
 
 // How many bytes some numbers have as they are written, of which there are few.
 pub(crate) fn numbers_length(values: &[i64]) -> usize
@@ -47,22 +49,35 @@ fn marks_length(mut marks: u64, count: usize) -> usize
     total
 }
 
-// How many bytes the lines of a row after its kind have; `values` begins with the row. 46, 27 and 22 are the bytes of the keys and of byte 10 in each line.
+// How many bytes the lines of a row after its kind have without their marks; `values` begins with the row. 46, 27 and 22 are the bytes of the keys and of byte 10 in
+// each line.
+fn unmarked_length(values: &[i64], kind: usize) -> usize
+    requires { ⌜ 9 ≤ length (now values) ⌝ }
+    ensures { λ r. ⌜ (r + marksOfKind kind (now (values .entry)) ≡ length (textOf (linesOfKind kind (rowOf (now (values .entry)))))) × (r ≤ 174) ⌝ }
+{
+    if kind < 4 {
+        return 46 + status_length(place_of(values[1])) + numbers_length(&values[2..8]);
+    }
+    if kind == 4 {
+        return 27 + numbers_length(&values[2..6]);
+    }
+    22 + numbers_length(&values[2..6])
+}
+
+// How many bytes the lines of a row after its kind have; the marks, which are rare, are added last.
 pub(crate) fn values_length(values: &[i64], kind: usize) -> usize
     requires { ⌜ 9 ≤ length (now values) ⌝ }
     ensures { λ r. ⌜ (r ≡ length (textOf (linesOfKind kind (rowOf (now (values .entry)))))) × (r ≤ 180) ⌝ }
 {
+    let unmarked = unmarked_length(values, kind);
     let marks = magnitude(values[8]);
+    if marks == 0 {
+        return unmarked;
+    }
     if kind < 4 {
-        return 46
-            + status_length(place_of(values[1]))
-            + numbers_length(&values[2..8])
-            + marks_length(marks, 6);
+        return unmarked + marks_length(marks, 6);
     }
-    if kind == 4 {
-        return 27 + numbers_length(&values[2..6]) + marks_length(marks, 4);
-    }
-    22 + numbers_length(&values[2..6]) + marks_length(marks, 4)
+    unmarked + marks_length(marks, 4)
 }
 
 // The lines of a generator after its kind; where the next line starts.
@@ -71,17 +86,55 @@ fn put_generator(buffer: &mut [u8], at: usize, values: &[i64]) -> usize
     ensures { λ r. ⌜ TextLaid (textOf (linesOfKind 0 (rowOf (now (values .entry))))) (now (buffer .entry)) at (now (buffer .exit)) r ⌝ }
 {
     let next = next_of(put_status(buffer, at, place_of(values[1])), at);
+    let marks = magnitude(values[8]);
+    if marks == 0 {
+        let ended = write_lines(
+            buffer,
+            next,
+            b"net=lsl=hsl=base=nonspin=cold30=",
+            &values[2..8],
+        );
+        return next_of(ended, next);
+    }
     let ended = write_marked_lines(
         buffer,
         next,
         b"net=lsl=hsl=base=nonspin=cold30=",
         &values[2..8],
-        magnitude(values[8]),
+        marks,
     );
     next_of(ended, next)
 }
 
-// The lines of a row after its kind; where the next line starts.
+// The lines of a controllable load after its kind; where the next line starts.
+fn put_controllable(buffer: &mut [u8], at: usize, values: &[i64]) -> usize
+    requires { ⌜ (9 ≤ length (now values)) × (at + length (textOf (linesOfKind 4 (rowOf (now values)))) ≤ length (now buffer)) ⌝ }
+    ensures { λ r. ⌜ TextLaid (textOf (linesOfKind 4 (rowOf (now (values .entry))))) (now (buffer .entry)) at (now (buffer .exit)) r ⌝ }
+{
+    let marks = magnitude(values[8]);
+    if marks == 0 {
+        let ended = write_lines(buffer, at, b"base=lpc=nonspin=regup=", &values[2..6]);
+        return next_of(ended, at);
+    }
+    let ended = write_marked_lines(buffer, at, b"base=lpc=nonspin=regup=", &values[2..6], marks);
+    next_of(ended, at)
+}
+
+// The lines of another load after its kind; where the next line starts.
+fn put_load(buffer: &mut [u8], at: usize, values: &[i64]) -> usize
+    requires { ⌜ (9 ≤ length (now values)) × (at + length (textOf (linesOfKind 5 (rowOf (now values)))) ≤ length (now buffer)) ⌝ }
+    ensures { λ r. ⌜ TextLaid (textOf (linesOfKind 5 (rowOf (now (values .entry))))) (now (buffer .entry)) at (now (buffer .exit)) r ⌝ }
+{
+    let marks = magnitude(values[8]);
+    if marks == 0 {
+        let ended = write_lines(buffer, at, b"rrsok=net=lpc=rrs=", &values[2..6]);
+        return next_of(ended, at);
+    }
+    let ended = write_marked_lines(buffer, at, b"rrsok=net=lpc=rrs=", &values[2..6], marks);
+    next_of(ended, at)
+}
+
+// The lines of a row after its kind; where the next line starts. Marks are rare, so numbers without one are written as numbers alone.
 pub(crate) fn put_values(buffer: &mut [u8], at: usize, values: &[i64], kind: usize) -> usize
     requires { ⌜ (9 ≤ length (now values)) × (at + length (textOf (linesOfKind kind (rowOf (now values)))) ≤ length (now buffer)) ⌝ }
     ensures { λ r. ⌜ TextLaid (textOf (linesOfKind kind (rowOf (now (values .entry))))) (now (buffer .entry)) at (now (buffer .exit)) r ⌝ }
@@ -90,21 +143,7 @@ pub(crate) fn put_values(buffer: &mut [u8], at: usize, values: &[i64], kind: usi
         return put_generator(buffer, at, values);
     }
     if kind == 4 {
-        let ended = write_marked_lines(
-            buffer,
-            at,
-            b"base=lpc=nonspin=regup=",
-            &values[2..6],
-            magnitude(values[8]),
-        );
-        return next_of(ended, at);
+        return put_controllable(buffer, at, values);
     }
-    let ended = write_marked_lines(
-        buffer,
-        at,
-        b"rrsok=net=lpc=rrs=",
-        &values[2..6],
-        magnitude(values[8]),
-    );
-    next_of(ended, at)
+    put_load(buffer, at, values)
 }

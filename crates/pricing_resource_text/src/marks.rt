@@ -2,7 +2,6 @@
 ghost use mathlib.Core.Path.{_≡_};
 ghost use Rattle.text_schema.specs.Schema.{keysOf};
 ghost use Rattle.pricing_resource_text.specs.internal.Marks.{markedOrFlag, numberOr, markOr, fieldsOf, FewLines, MarksRead};
-use text_line::Lines;
 use text_line::line::line_value;
 use text_line::line::value_fault;
 use text_line::piece::part;
@@ -13,7 +12,6 @@ use text_number::marked::marked_refusal;
 use text_number::marked::plain_number;
 use text_number::number_of;
 use text_refusal::refusal::Fault;
-use text_schema::read_lines;
 
 // Which of the numbers read are marked and where their lines end, or a refused line.
 pub(crate) enum MarkedLines {
@@ -56,7 +54,7 @@ fn mark_or(n: MarkedNumber, mark: u64) -> u64
 }
 
 // The lines due at a position, each a number under its key within its bounds, into their places; the one at the place `flag` carries no mark.
-fn marked_lines(
+pub(crate) fn marked_lines(
     text: &[u8],
     at: usize,
     keys: &[u8],
@@ -90,24 +88,4 @@ fn marked_lines(
         i += 1;
     }
     MarkedLines::Read { marks, next }
-}
-
-// The lines due at a position into their places, as `marked_lines` reads them. Marks are rare, so they are first read as numbers alone.
-pub(crate) fn read_numbers(
-    text: &[u8],
-    at: usize,
-    keys: &[u8],
-    lows: &[i64],
-    highs: &[i64],
-    flag: usize,
-    out: &mut [i64],
-) -> MarkedLines
-    requires { ⌜ FewLines (now keys) (now lows) (now highs) (now out) ⌝ }
-    ensures { λ r. ⌜ MarksRead (fieldsOf flag 0 (keysOf (now (keys .entry))) (now (lows .entry)) (now (highs .entry))) (now (text .entry)) at (now (out .exit)) r ⌝ }
-{
-    let ended = read_lines(text, at, keys, lows, highs, out);
-    match ended {
-        Lines::Read { next } => MarkedLines::Read { marks: 0, next },
-        Lines::Refused(_) => marked_lines(text, at, keys, lows, highs, flag, out),
-    }
 }

@@ -1,6 +1,5 @@
 -- Laws on the resources one after the other: the tally so far and the resources that are left make up the whole.
 use Prim.Native.Nat.{ℕ, suc, _+_, _-_, _*_, _≤_, _<_}
-use native.Mathlib.Nat.{sub-zero}
 use native.Mathlib.Omega.{arith}
 use mathlib.Core.Path.{_≡_, refl, ap, sym, _∙_}
 use mathlib.Core.List.{List, [], _∷_}
@@ -36,39 +35,39 @@ tallied-more tally id one (refused found) = refl
 
 -- ---- the resources under way
 
--- n of them are read: their tally, their ids in the table, and the rest is due at a position
-pub record Summing (text : List ℕ) (at count : ℕ) (starts₀ starts : List ℕ) (tally : Tally) (next n : ℕ) : Type 0 where
-  pub due : n ≤ count
+-- so many of them are left, due at a position: the tally of the others, and their ids in the table
+pub record Summing (text : List ℕ) (at count : ℕ) (starts₀ starts : List ℕ) (tally : Tally) (next left : ℕ) : Type 0 where
+  pub due : left ≤ count
   pub room : Room count starts
   pub long : length starts ≡ length starts₀
   pub above : List (List ℕ)
-  pub counted : length above ≡ n
+  pub counted : length above + left ≡ count
   pub table : IdTable 10 text starts above
-  pub within : SumsWithin n (tally .sums)
-  pub lines : tally .lines ≤ 8 + 9 * n
-  pub rest : tallied noTally (resourcesAt resourceAt count [] text at) ≡ tallied tally (resourcesAt resourceAt (count - n) above text next)
+  pub within : SumsWithin (length above) (tally .sums)
+  pub lines : tally .lines ≤ 8 + 9 * length above
+  pub rest : tallied noTally (resourcesAt resourceAt count [] text at) ≡ tallied tally (resourcesAt resourceAt left above text next)
 
-pub summing-start : (text : List ℕ) (at count : ℕ) {starts : List ℕ} → IdTable 10 text starts [] → Room count starts → Summing text at count starts starts noTally at 0
+pub summing-start : (text : List ℕ) (at count : ℕ) {starts : List ℕ} → IdTable 10 text starts [] → Room count starts → Summing text at count starts starts noTally at count
 summing-start text at count table room =
     record {
       due = omega arith;
       room = room;
       long = refl;
       above = [];
-      counted = refl;
+      counted = omega arith;
       table = table;
       within = none-within;
       lines = omega arith;
-      rest = rw sub-zero;
+      rest = refl;
     }
 
 module _
-    {text : List ℕ} {at count : ℕ} {starts₀ starts : List ℕ} {tally : Tally} {next n : ℕ} (so-far : Summing text at count starts₀ starts tally next n) where
-  pub summing-over : count ≤ n → got tally next ≡ tallied noTally (resourcesAt resourceAt count [] text at)
+    {text : List ℕ} {at count : ℕ} {starts₀ starts : List ℕ} {tally : Tally} {next left : ℕ} (so-far : Summing text at count starts₀ starts tally next left) where
+  pub summing-over : left ≤ 0 → got tally next ≡ tallied noTally (resourcesAt resourceAt count [] text at)
   unfolding resourcesAt
-  summing-over h = let z : count - n ≡ 0 = omega arith in rw (so-far .rest, z, tally-none)
+  summing-over h = let z : left ≡ 0 = omega arith in rw (so-far .rest, z, tally-none)
 
-  module _ (more : n < count) where
+  module _ (more : 0 < left) where
     -- there is room for one more id
     abbrev pub summing-room : RoomLeft text starts
     summing-room = record { above = so-far .above; table = so-far .table; one = table-room (so-far .table) (so-far .room) (omega (arith, so-far .counted)) }
@@ -84,10 +83,10 @@ module _
         tallied noTally (resourcesAt resourceAt count [] text at) ≡
         tallied tally (afterAnswer (newIdAt (so-far .above) text next)
         (λ id after. afterAnswer (resourceAt text after)
-        (λ one last. afterAnswer (resourcesAt resourceAt (count - (n + 1)) (id ∷ so-far .above) text last)
+        (λ one last. afterAnswer (resourcesAt resourceAt (left - 1) (id ∷ so-far .above) text last)
         (λ others end. got (withEntry id one others) end))))
     unfolding resourcesAt
-    one-due = let e : count - n ≡ suc (count - (n + 1)) = omega arith in rw (so-far .rest, e)
+    one-due = let e : left ≡ suc (left - 1) = omega arith in so-far .rest ∙ ap (λ (k : ℕ). tallied tally (resourcesAt resourceAt k (so-far .above) text next)) e
 
     module _ {starts′ : List ℕ} {found : NewId} (kept : IdKept text next starts starts′ found) where
       module _
@@ -96,7 +95,7 @@ module _
         resource-due :
             tallied noTally (resourcesAt resourceAt count [] text at) ≡
             tallied tally (afterAnswer (resourceAt text after)
-            (λ one last. afterAnswer (resourcesAt resourceAt (count - (n + 1)) (valueAt (bytes "id=") text next ∷ so-far .above) text last)
+            (λ one last. afterAnswer (resourcesAt resourceAt (left - 1) (valueAt (bytes "id=") text next ∷ so-far .above) text last)
             (λ others end′. got (withEntry (valueAt (bytes "id=") text next) one others) end′)))
         resource-due = rw (one-due, ← kept .answers summing-room, id-told)
 
@@ -110,7 +109,7 @@ module _
             go (refused found′) e p = rw (resource-due, read, e)
 
         summing-read :
-            {one : Resource} {tally′ : Tally} {last : ℕ} → resourceAt text after ≡ got one last → tally′ ≡ tallyWith tally one → length starts′ ≡ length starts → Summing text at count starts₀ starts′ tally′ last (n + 1)
+            {one : Resource} {tally′ : Tally} {last : ℕ} → resourceAt text after ≡ got one last → tally′ ≡ tallyWith tally one → length starts′ ≡ length starts → Summing text at count starts₀ starts′ tally′ last (left - 1)
         summing-read {one} {tally′} {last} is s l =
             record {
               due = omega arith;
@@ -119,17 +118,17 @@ module _
               above = valueAt (bytes "id=") text next ∷ so-far .above;
               counted = omega (arith, so-far .counted);
               table = kept .table summing-room after id-told;
-              within = rw (s, tally-with tally one) (plus-within n 1 (so-far .within) (part-within one (resource-read text after is)));
+              within = rw (s, tally-with tally one) (within-more (omega arith) (plus-within (length (so-far .above)) 1 (so-far .within) (part-within one (resource-read text after is))));
               lines = rw (s, tally-with tally one) (omega (arith, so-far .lines, count-few one));
               rest =
                   resource-due
                   ∙ rw (is, s)
-                  (tallied-more tally (valueAt (bytes "id=") text next) one (resourcesAt resourceAt (count - (n + 1)) (valueAt (bytes "id=") text next ∷ so-far .above) text last));
+                  (tallied-more tally (valueAt (bytes "id=") text next) one (resourcesAt resourceAt (left - 1) (valueAt (bytes "id=") text next ∷ so-far .above) text last));
             }
 
         summing-more :
             {tally′ : Tally} {last : ℕ} → answer ≡ resources.Read tally′ last → length starts′ ≡ length starts →
-            Summing text at count starts₀ starts′ tally′ last (n + 1)
+            Summing text at count starts₀ starts′ tally′ last (left - 1)
         summing-more {tally′} {last} is l =
             let f = followed (resourceAt text after) (λ one next. got (tallyWith tally one) next) (sym read ∙ ap resourcesAnswer is) in
             let one : resourceAt text after ≡ got (f .one) last = cc (f .given, f .then) in
@@ -159,14 +158,14 @@ module _
       pub summing-next :
           IdKept text next starts starts′ found → {tally′ : Tally} {last : ℕ} → answer ≡ resources.Read tally′ last →
           length starts′ ≡ length starts →
-          Summing text at count starts₀ starts′ tally′ last (n + 1)
+          Summing text at count starts₀ starts′ tally′ last (left - 1)
       summing-next kept {tally′} {last} is l = go found kept read
         where
           go :
               (found : NewId) → IdKept text next starts starts′ found →
               resourcesAnswer answer ≡
               afterAnswer (idAnswer (valueAt (bytes "id=") text next) found) (λ of after. afterAnswer (resourceAt text after) (λ one last. got (tallyWith tally one) last)) →
-              Summing text at count starts₀ starts′ tally′ last (n + 1)
+              Summing text at count starts₀ starts′ tally′ last (left - 1)
           go (new-id.Refused fault) kept read =
               let p : got tally′ last ≡ refused fault = sym (ap resourcesAnswer is) ∙ read in
               let z : _≡_ {A = ℕ} 0 1 = cc in

@@ -96,7 +96,7 @@ pub data SnapshotAnswer : Type 0 where
   read : Header → List Entry → SnapshotAnswer
   refused-by : Refusal → SnapshotAnswer
 
--- then 15 with the line of the first number that is marked suspect on a unit where that turns the snapshot back; 8 lines stand before the resources
+-- then 15 with the line of the first number that is marked suspect on a unit where that turns the snapshot back
 abbrev pub unlessSuspect : Contents → ℕ → SnapshotAnswer
 unlessSuspect found line = cond (eqb line 0) (read (found .header) (found .entries)) (refused-by (record { number = 15; line = line }))
 

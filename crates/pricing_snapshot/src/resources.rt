@@ -119,8 +119,8 @@ pub(crate) fn resources_at(text: &[u8], at: usize, count: usize, starts: &mut [u
         suspect: 0,
     };
     let mut next = at;
-    let mut n: usize = 0;
-    while n < count {
+    let mut left = count;
+    while 0 < left {
         let id = new_id(text, next, starts);
         let r = with_resource(text, id, tally);
         let Resources::Read {
@@ -132,7 +132,7 @@ pub(crate) fn resources_at(text: &[u8], at: usize, count: usize, starts: &mut [u
         };
         tally = more;
         next = last;
-        n += 1;
+        left -= 1;
     }
     Resources::Read { tally, next }
 }

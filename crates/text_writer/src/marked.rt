@@ -10,7 +10,6 @@ use crate::Written;
 use crate::number_length;
 use crate::put_bytes;
 use crate::put_line;
-use crate::write_lines;
 use integer::magnitude;
 use text_line::piece::piece_end;
 
@@ -76,7 +75,7 @@ fn put_marked_lines(
 }
 
 // The text of the values under their keys, at a position of a lent buffer: the lowest binary digit of the marks is the mark of the first value, the next that of the
-// second. Marks are rare, so values without one are written as numbers alone.
+// second.
 pub fn write_marked_lines(
     buffer: &mut [u8],
     at: usize,
@@ -87,9 +86,6 @@ pub fn write_marked_lines(
     ensures { λ r.
         ⌜ TextWritten (writtenMarkedLines (keysOf (now (keys .entry))) (markedBy marks (now (values .entry)))) (now (buffer .entry)) at (now (buffer .exit)) r ⌝ }
 {
-    if marks == 0 {
-        return write_lines(buffer, at, keys, values);
-    }
     if buffer.len() < at {
         return Written::Short;
     }

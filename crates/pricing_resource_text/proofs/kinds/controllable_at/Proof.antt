@@ -1,73 +1,83 @@
+-- Lines that are read as numbers alone carry no mark; any others are read once more.
 use native.Mathlib.Omega.{arith}
-use mathlib.Core.Path.{refl}
+use mathlib.Core.Path.{_≡_, refl}
+use Prim.Native.Nat.{ℕ}
 use denote.Ref.{now}
+use Rattle.text_line.specs.declared.Lines.the-variants as lines
 use Rattle.pricing_resource_text.specs.Resource.{controllableOf, controllableFields}
 use Rattle.pricing_resource_text.specs.internal.Marks.{MarksRead}
+use Rattle.pricing_resource_text.specs.declared.marks.MarkedLines.the-variants as marked-lines
 use Rattle.pricing_resource_text.proofs.Small.{controllable-small, numbers-small}
 use Rattle.pricing_resource_text.proofs.Lines.{controllable-few, controllable-is}
-use Rattle.pricing_resource_text.proofs.Marking.{made-read, made-refused}
+use Rattle.pricing_resource_text.proofs.Marking.{marked-unmarked, made-read}
 use Rattle.pricing_resource_text.proofs.kinds.controllable_at.Statement.{statement}
 use Rattle.pricing_resource_text.proofs.kinds.controllable_at.Tie as tie
 
-slice-aggregate-read-numbers : tie.Need-slice-aggregate-read-numbers
-slice-aggregate-read-numbers c = refl
+slice-aggregate-read-lines : tie.Need-slice-aggregate-read-lines
+slice-aggregate-read-lines c = refl
 
-slice-aggregate-read-numbers-2 : tie.Need-slice-aggregate-read-numbers-2
-slice-aggregate-read-numbers-2 c = refl
+slice-aggregate-read-lines-2 : tie.Need-slice-aggregate-read-lines-2
+slice-aggregate-read-lines-2 c = refl
 
-slice-aggregate-read-numbers-3 : tie.Need-slice-aggregate-read-numbers-3
-slice-aggregate-read-numbers-3 c = refl
+slice-aggregate-read-lines-3 : tie.Need-slice-aggregate-read-lines-3
+slice-aggregate-read-lines-3 c = refl
 
-slice-aggregate-read-numbers-4 : tie.Need-slice-aggregate-read-numbers-4
-slice-aggregate-read-numbers-4 c = refl
+slice-aggregate-read-lines-4 : tie.Need-slice-aggregate-read-lines-4
+slice-aggregate-read-lines-4 c = refl
 
-read-numbers-requires : tie.Need-read-numbers-requires
-read-numbers-requires c κs = controllable-few
+read-lines-requires : tie.Need-read-lines-requires
+read-lines-requires c κs = tt
 
 enum-known-b : tie.Need-enum-known-b
 enum-known-b c = c .match .keys1
 
-enum-known-b-2 : tie.Need-enum-known-b-2
-enum-known-b-2 c = c .match .keys2
+enum-told : tie.Need-enum-told
+enum-told c = c .match .keys2
 
--- the lines were read by the fields of the kind
-abbrev begun : tie.After-read-numbers → tie.Start
+marked-controllable-requires : tie.Need-marked-controllable-requires
+marked-controllable-requires c κs = tt
+
+returns : tie.Need-returns
+returns c = c .marked-controllable .ensures
+
+-- the lines were read as numbers alone, by the fields of the kind
+abbrev begun : tie.After-read-lines → tie.Start
 begun c = c .before .before .before .before .before .before
 
-lines : (c : tie.After-read-numbers) → MarksRead controllableFields (now (begun c .args .text)) (begun c .args .at) (c .read-numbers .last .1 .1 .1 .1 .1 .1 .0) (c .read-numbers .result)
-lines c = rw controllable-is at (c .read-numbers .ensures)
+unmarked :
+    (c : tie.After-read-lines) {next : ℕ} → c .read-lines .result ≡ lines.Read next →
+    MarksRead controllableFields (now (begun c .args .text)) (begun c .args .at) (c .read-lines .last .1 .1 .1 .1 .1 .0) (marked-lines.Read 0 next)
+unmarked c told = rw controllable-is at (marked-unmarked 4 controllable-few (c .read-lines .ensures) told)
 
 slice-aggregate-controllable-of : tie.Need-slice-aggregate-controllable-of
 slice-aggregate-controllable-of c = omega arith
 
 controllable-of-requires : tie.Need-controllable-of-requires
 controllable-of-requires c κs =
-    let read = c .before .before .before .before .before in
-    let told = lines read .taken _ _ (c .before .before .b2 .given .1) in
+    let known = c .before .before in
+    let read = known .before .before .before in
+    let told = unmarked read (known .b .given .1) .taken _ _ refl in
     (omega arith, rw (told .1 .1) (numbers-small controllableFields controllable-small (now (begun read .args .text)) (begun read .args .at)))
-
-returns : tie.Need-returns
-returns c =
-    let read = c .before .before .before .before in
-    made-refused controllableOf (lines read) (c .before .b .given .1)
 
 returns-2 : tie.Need-returns-2
 returns-2 c =
-    let read = c .before .before .before .before .before .before in
-    made-read controllableOf (lines read) (c .before .before .before .b2 .given .1) (c .controllable-of .ensures)
+    let known = c .before .before .before in
+    let read = known .before .before .before in
+    made-read controllableOf (unmarked read (known .b .given .1)) refl (c .controllable-of .ensures)
 
 pub controllable-at-spec : {M : Type 1} → statement M
 controllable-at-spec =
     tie.close
     (tie.spec
-    slice-aggregate-read-numbers
-    slice-aggregate-read-numbers-2
-    slice-aggregate-read-numbers-3
-    slice-aggregate-read-numbers-4
-    read-numbers-requires
+    slice-aggregate-read-lines
+    slice-aggregate-read-lines-2
+    slice-aggregate-read-lines-3
+    slice-aggregate-read-lines-4
+    read-lines-requires
     enum-known-b
-    enum-known-b-2
+    enum-told
+    marked-controllable-requires
+    returns
     slice-aggregate-controllable-of
     controllable-of-requires
-    returns
     returns-2)

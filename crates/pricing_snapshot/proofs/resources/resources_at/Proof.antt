@@ -1,17 +1,15 @@
-use Prim.Native.Nat.{ℕ, _+_, _-_, _≤_, _<_}
+use Prim.Native.Nat.{ℕ, _-_, _<_}
 use native.Mathlib.Omega.{arith}
 use mathlib.Core.Path.{_∙_}
-use mir.Syntax.{w64}
-use mir.Val.{Fits}
 use Rattle.pricing_snapshot.proofs.Summing.{Summing, summing-start, summing-room, summing-within, summing-lines, summing-stop, summing-next, summing-over}
 use Rattle.pricing_snapshot.proofs.resources.resources_at.Statement.{statement}
 use Rattle.pricing_snapshot.proofs.resources.resources_at.Tie as tie
 
 abbrev Inv-loop : tie.InvT-loop
-Inv-loop text at count starts₀ tally₀ next₀ n₀ starts tally next n = Summing text at count starts₀ starts tally next n
+Inv-loop text at count starts₀ tally₀ next₀ left₀ starts tally next left = Summing text at count starts₀ starts tally next left
 
 abbrev μ-loop : tie.MeasureT-loop
-μ-loop text at count starts₀ tally₀ next₀ n₀ starts tally next n = count - n
+μ-loop text at count starts₀ tally₀ next₀ left₀ starts tally next left = left
 
 loop-holds : tie.Need-loop-holds Inv-loop μ-loop
 loop-holds c = let start = c .before .before in summing-start (start .args .text .now) (start .args .at) (start .args .count) (start .pre .0) (start .pre .1)
@@ -41,13 +39,10 @@ returns c =
     let id = r .before .before .before .new-id in
     summing-stop (turn r .before .loop .inv) (turn r .loop-test .taken) (id .result) (r .with-resource .ensures _) (id .ensures) (c .enum-told .given .1)
 
-fits : {n count : ℕ} → n < count → count ≤ 4096 → Fits w64 (n + 1)
-fits h few = omega arith
+sub-left : tie.Need-sub-left Inv-loop μ-loop
+sub-left c = turn (c .before .before .before) .loop-test .taken
 
-add-n : tie.Need-add-n Inv-loop μ-loop
-add-n c = let at = turn (c .before .before .before) in fits (at .loop-test .taken) (at .before .loop .inv .room .few)
-
-fewer : {n count : ℕ} → n < count → count - (n + 1) < count - n
+fewer : {left : ℕ} → 0 < left → left - 1 < left
 fewer h = omega arith
 
 loop-less : tie.Need-loop-less Inv-loop μ-loop
@@ -79,7 +74,7 @@ resources-at-spec =
     enum-told
     same-length
     returns
-    add-n
+    sub-left
     loop-less
     loop-again
     same-length-2

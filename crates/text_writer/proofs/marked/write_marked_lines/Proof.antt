@@ -1,8 +1,8 @@
--- Values without a mark are numbers alone; whether the text of others fits is known before a byte is written.
+-- Whether the text fits is known before a byte is written.
 use native.Mathlib.Omega.{arith}
 use borrow.Author.Tests.{leb-true, leb-false}
 use mathlib.Core.List.{List}
-use mathlib.Core.Path.{_≡_, sym, _∙_}
+use mathlib.Core.Path.{sym, _∙_}
 use Prim.Native.Nat.{ℕ, _-_, _≤_}
 use denote.Ref.{now}
 use lib.ListN.{length}
@@ -10,7 +10,6 @@ use Rattle.text_number.specs.Marked.{markedBy}
 use Rattle.text_schema.specs.Schema.{keysOf}
 use Rattle.text_writer.specs.Write.{writtenMarkedLines}
 use Rattle.text_writer.proofs.Writing.{text-short, text-stands}
-use Rattle.text_writer.proofs.MarkedLines.{lines-unmarked}
 use Rattle.text_writer.proofs.marked.write_marked_lines.Statement.{statement}
 use Rattle.text_writer.proofs.marked.write_marked_lines.Tie as tie
 
@@ -21,22 +20,8 @@ text s = writtenMarkedLines (keysOf (now (s .args .keys))) (markedBy (s .args .m
 abbrev room : tie.Start → ℕ
 room s = length (now (s .args .buffer)) - s .args .at
 
-write-lines-requires : tie.Need-write-lines-requires
-write-lines-requires c κs = tt
-
-same-length : tie.Need-same-length
-same-length c = c .before .before .write-lines .kept .0
-
 returns : tie.Need-returns
-returns c =
-    let w = c .before .before in
-    let t = w .before .before in
-    let s = t .before .before .before in
-    let none : s .args .marks ≡ 0 = t .if1 .taken in
-    rw (none, lines-unmarked (keysOf (now (s .args .keys))) (now (s .args .values))) (w .write-lines .ensures)
-
-returns-2 : tie.Need-returns-2
-returns-2 c = let s = c .before .before .before .before in text-short (text s) (now (s .args .buffer)) (s .args .at) (omega arith)
+returns c = let s = c .before .before .before in text-short (text s) (now (s .args .buffer)) (s .args .at) (omega arith)
 
 sub-marked-lines-fit : tie.Need-sub-marked-lines-fit
 sub-marked-lines-fit c = omega arith
@@ -45,40 +30,37 @@ marked-lines-fit-requires : tie.Need-marked-lines-fit-requires
 marked-lines-fit-requires c κs = tt
 
 abbrev start : tie.After-marked-lines-fit → tie.Start
-start c = c .before .before .before .before .before
+start c = c .before .before .before .before
 
-fits : (c : tie.Then3) → length (text (start (c .before))) ≤ room (start (c .before))
-fits c = let s = start (c .before) in leb-true (length (text s)) (room s) (sym (c .before .marked-lines-fit .ensures) ∙ c .if3 .taken)
+fits : (c : tie.Then2) → length (text (start (c .before))) ≤ room (start (c .before))
+fits c = let s = start (c .before) in leb-true (length (text s)) (room s) (sym (c .before .marked-lines-fit .ensures) ∙ c .if2 .taken)
 
 put-marked-lines-requires : tie.Need-put-marked-lines-requires
-put-marked-lines-requires c κs = let t = c .before in omega (arith, fits t, t .before .before .if2 .left)
+put-marked-lines-requires c κs = let t = c .before in omega (arith, fits t, t .before .before .if1 .left)
 
-same-length-2 : tie.Need-same-length-2
-same-length-2 c = c .before .before .put-marked-lines .kept .0
+same-length : tie.Need-same-length
+same-length c = c .before .before .put-marked-lines .kept .0
+
+returns-2 : tie.Need-returns-2
+returns-2 c =
+    let p = c .before .before in
+    let t = p .before .before in
+    text-stands (p .put-marked-lines .ensures) (omega (arith, fits t, t .before .before .if1 .left))
 
 returns-3 : tie.Need-returns-3
 returns-3 c =
-    let p = c .before .before in
-    let t = p .before .before in
-    text-stands (p .put-marked-lines .ensures) (omega (arith, fits t, t .before .before .if2 .left))
-
-returns-4 : tie.Need-returns-4
-returns-4 c =
     let s = start (c .before) in
-    let beyond = leb-false (length (text s)) (room s) (sym (c .before .marked-lines-fit .ensures) ∙ c .if3 .left) in
+    let beyond = leb-false (length (text s)) (room s) (sym (c .before .marked-lines-fit .ensures) ∙ c .if2 .left) in
     text-short (text s) (now (s .args .buffer)) (s .args .at) (omega arith)
 
 pub write-marked-lines-spec : {M : Type 1} → statement M
 write-marked-lines-spec =
     tie.close
     (tie.spec
-    write-lines-requires
-    same-length
     returns
-    returns-2
     sub-marked-lines-fit
     marked-lines-fit-requires
     put-marked-lines-requires
-    same-length-2
-    returns-3
-    returns-4)
+    same-length
+    returns-2
+    returns-3)
