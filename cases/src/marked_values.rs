@@ -273,22 +273,7 @@ fn random_held(random: &mut Random) -> i64 {
 /// The longest text that can be, with a mark on every number that can have one,
 /// and marks that are refused in its first, middle and last resource.
 fn longest(cases: &mut Vec<Case>) {
-    let header = Header {
-        month: 12,
-        hour: 23,
-        lambda: -POWER,
-        factor: 10_000,
-        prc: 200_000_000,
-        eea1: 200_000_000,
-        short: 200_000_000,
-    };
-    let header = bytes(&with_value(&snapshot(&header, &[]), 8, "4096"));
-    let numbers = [-POWER, POWER, POWER, POWER, POWER, 1];
-    let unit = |id: &str, status: &str| listing(&generator(id, "wind", status, numbers));
-    let all = |lines: &[String]| marked(lines, &[4, 5, 6, 7, 8]);
-    let fine = bytes(&all(&unit("LONGEST_UNIT#", "SHUTDOWN")));
-    let above = Text::from(header).then(4095, fine);
-    let last = all(&unit("LONGEST_UNIT4095", "SHUTDOWN"));
+    let (above, last) = longest_text(&[4, 5, 6, 7, 8]);
     longest_written(cases, above.clone().then(1, bytes(&last)));
     longest_read(cases, &above, &last);
 }

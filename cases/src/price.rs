@@ -52,6 +52,17 @@ pub const HEADER: Header = Header {
     short: 0,
 };
 
+/// The header with the longest text.
+pub const LONGEST_HEADER: Header = Header {
+    month: 12,
+    hour: 23,
+    lambda: -POWER,
+    factor: 10_000,
+    prc: 200_000_000,
+    eea1: 200_000_000,
+    short: 200_000_000,
+};
+
 pub fn snapshot(header: &Header, resources: &[String]) -> Lines {
     let Header {
         month,
@@ -369,13 +380,9 @@ fn bounds(cases: &mut Vec<Case>) {
         }
     }
     let header = Header {
-        month: 12,
-        hour: 23,
-        lambda: -POWER,
-        factor: 10_000,
-        prc: 200_000_000,
         eea1: 199_999_999,
         short: 0,
+        ..LONGEST_HEADER
     };
     let most = [
         generator("A", "gen", "ON", [POWER, POWER, POWER, 0, 0, 1]),

@@ -2,6 +2,7 @@
 //! many resources as there can be.
 
 use crate::held::{edited_length, unmarked_length, LONGEST_BUFFER, MARKS, ROWS};
+use crate::marks::marked;
 use crate::price::*;
 use crate::read_values::{into_rows, random_text, read, STATUSES};
 use crate::texts::*;
@@ -608,23 +609,23 @@ fn random_values(cases: &mut Vec<Case>, random: &mut Random) {
     }
 }
 
+/// The longest text with marks on these lines of each resource, counted from 1:
+/// what stands above its last resource, and that one.
+pub fn longest_text(marks: &[usize]) -> (Text, Lines) {
+    let header = bytes(&with_value(&snapshot(&LONGEST_HEADER, &[]), 8, "4096"));
+    let numbers = [-POWER, POWER, POWER, POWER, POWER, 1];
+    let unit = |id: &str| {
+        let lines = listing(&generator(id, "wind", "SHUTDOWN", numbers));
+        marked(&lines, marks)
+    };
+    let above = Text::from(header).then(4095, bytes(&unit("LONGEST_UNIT#")));
+    (above, unit("LONGEST_UNIT4095"))
+}
+
 /// The longest text that can be, of as many resources as there can be, read
 /// and written, and faults in its last lines.
 fn longest(cases: &mut Vec<Case>) {
-    let header = Header {
-        month: 12,
-        hour: 23,
-        lambda: -POWER,
-        factor: 10_000,
-        prc: 200_000_000,
-        eea1: 200_000_000,
-        short: 200_000_000,
-    };
-    let header = bytes(&with_value(&snapshot(&header, &[]), 8, "4096"));
-    let power = [-POWER, POWER, POWER, POWER, POWER, 1];
-    let unit = |id: &str| listing(&generator(id, "wind", "SHUTDOWN", power));
-    let above = Text::from(header).then(4095, bytes(&unit("LONGEST_UNIT#")));
-    let last = unit("LONGEST_UNIT4095");
+    let (above, last) = longest_text(&[]);
     let text = above.clone().then(1, bytes(&last));
     longest_read(cases, &above, &last, &text);
     longest_written(cases, text);

@@ -1,9 +1,12 @@
 //! Libraries with a fault each: the fault is found, and made small.
 
+mod common;
+
+use common::{smallest, Faulty, Spoils};
 use differential::order::{self, Counts};
 use differential::{
-    curve_trip, input, page, run, show, shrink, Answer, Curves, Header, Input, Library, Plain,
-    Random, RecordNumbers, Refusal, Tally,
+    curve_trip, input, page, run, show, Answer, Curves, Input, Library, Plain, Random,
+    RecordNumbers, Refusal, Tally,
 };
 
 #[derive(Clone, Copy, Debug, PartialEq, Eq)]
@@ -80,13 +83,8 @@ const PAGE: usize = 24 * ROW;
 /// Where the probabilities of a row stand, each with the space before it.
 const PROBABILITIES: [std::ops::Range<usize>; 4] = [27..38, 38..49, 49..60, 60..71];
 
-struct Faulty(Fault);
-
-impl Library for Faulty {
-    fn name(&self) -> &'static str {
-        "faulty"
-    }
-
+// Faults of the operations on values stand in `held_faults.rs`.
+impl Spoils for Faulty<Fault> {
     fn book(&self, record: &mut RecordNumbers, text: &[u8]) -> Refusal {
         let before = *record;
         let mut refusal = Plain.book(record, text);
@@ -246,39 +244,6 @@ impl Library for Faulty {
         }
         refusal
     }
-
-    // Faults of the operations on values stand in `held_faults.rs`.
-
-    fn read_snapshot(
-        &self,
-        text: &[u8],
-        header: &mut Header,
-        ids: &mut [u8],
-        numbers: &mut [i64],
-    ) -> Refusal {
-        Plain.read_snapshot(text, header, ids, numbers)
-    }
-
-    fn snapshot_length(
-        &self,
-        header: &Header,
-        ids: &[u8],
-        numbers: &[i64],
-        length: &mut usize,
-    ) -> Refusal {
-        Plain.snapshot_length(header, ids, numbers, length)
-    }
-
-    fn write_snapshot(
-        &self,
-        header: &Header,
-        ids: &[u8],
-        numbers: &[i64],
-        buffer: &mut [u8],
-        written: &mut usize,
-    ) -> Refusal {
-        Plain.write_snapshot(header, ids, numbers, buffer, written)
-    }
 }
 
 /// The text of any curve set, possible or not.
@@ -323,17 +288,6 @@ fn from_midnight(text: &[u8]) -> Vec<u8> {
         }
     });
     lines.collect::<String>().into_bytes()
-}
-
-/// The smallest input found on which the fault shows.
-fn smallest(fault: Fault) -> Input {
-    let differs = |input: &Input| run(&Faulty(fault), input) != run(&Plain, input);
-    let inputs = (0..50_000).map(|place| input(&mut Random::at(7, place)));
-    let found = inputs.into_iter().find(|input| differs(input));
-    let found = found.unwrap_or_else(|| panic!("{fault:?} is not found"));
-    let smallest = shrink(&found, differs);
-    assert!(differs(&smallest));
-    smallest
 }
 
 fn lines(text: &[u8]) -> Vec<String> {

@@ -1,9 +1,12 @@
 //! Libraries with a fault each in reading or writing values: the fault is found
 //! by the inputs and made small, or by the round trips, or by both.
 
+mod common;
+
+use common::{smallest, Faulty, Spoils};
 use differential::{
-    id_length, input, run, shrink, trip, Answer, Curves, Header, Held, Input, Library, Plain,
-    Random, RecordNumbers, Refusal, ID_ROW, NUMBER_ROW,
+    id_length, input, run, trip, Header, Held, Input, Library, Plain, Random, Refusal, ID_ROW,
+    NUMBER_ROW,
 };
 
 #[derive(Clone, Copy, Debug, PartialEq, Eq)]
@@ -92,8 +95,6 @@ const ALL: [Fault; 26] = [
     Fault::CountLeft,
 ];
 
-struct Faulty(Fault);
-
 const SHORT: Refusal = Refusal {
     number: 14,
     line: 0,
@@ -180,7 +181,7 @@ fn line_of(text: &[u8], line: &str) -> Option<u64> {
     place.map(|place| place as u64 + 1)
 }
 
-impl Faulty {
+impl Faulty<Fault> {
     /// The text that the library gives for values, or its refusal.
     fn text(&self, held: &Held) -> Result<Vec<u8>, Refusal> {
         let mut changed = held.clone();
@@ -285,45 +286,7 @@ impl Faulty {
     }
 }
 
-impl Library for Faulty {
-    fn name(&self) -> &'static str {
-        "faulty"
-    }
-
-    fn book(&self, record: &mut RecordNumbers, text: &[u8]) -> Refusal {
-        Plain.book(record, text)
-    }
-
-    fn settle(
-        &self,
-        record: &RecordNumbers,
-        voll: i64,
-        floor: i64,
-        curves: &mut Curves,
-    ) -> Refusal {
-        Plain.settle(record, voll, floor, curves)
-    }
-
-    fn read_curves(&self, text: &[u8], curves: &mut Curves) -> Refusal {
-        Plain.read_curves(text, curves)
-    }
-
-    fn curves_length(&self, curves: &Curves, length: &mut usize) -> Refusal {
-        Plain.curves_length(curves, length)
-    }
-
-    fn write_curves(&self, curves: &Curves, buffer: &mut [u8], written: &mut i64) -> Refusal {
-        Plain.write_curves(curves, buffer, written)
-    }
-
-    fn price(&self, curves: &Curves, text: &[u8], answer: &mut Answer) -> Refusal {
-        Plain.price(curves, text, answer)
-    }
-
-    fn write_page(&self, curves: &Curves, buffer: &mut [u8]) -> Refusal {
-        Plain.write_page(curves, buffer)
-    }
-
+impl Spoils for Faulty<Fault> {
     fn read_snapshot(
         &self,
         text: &[u8],
@@ -442,17 +405,6 @@ impl Library for Faulty {
             }
         }
     }
-}
-
-/// The smallest input found on which the fault shows.
-fn smallest(fault: Fault) -> Input {
-    let differs = |input: &Input| run(&Faulty(fault), input) != run(&Plain, input);
-    let inputs = (0..50_000).map(|place| input(&mut Random::at(7, place)));
-    let found = inputs.into_iter().find(|input| differs(input));
-    let found = found.unwrap_or_else(|| panic!("{fault:?} is not found"));
-    let smallest = shrink(&found, differs);
-    assert!(differs(&smallest));
-    smallest
 }
 
 /// The values of an input that is written, or asked for its length.

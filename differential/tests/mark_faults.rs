@@ -1,9 +1,12 @@
 //! Libraries with a fault each in what numbers marked suspect (W-206) do: the
 //! fault is found by the inputs and made small, and some by the checks as well.
 
+mod common;
+
+use common::{smallest, Faulty, Spoils};
 use differential::{
-    input, marks, run, shrink, trip, Answer, Curves, Header, Held, Input, Library, Plain, Random,
-    RecordNumbers, Refusal, ID_ROW, NUMBER_ROW,
+    input, marks, run, trip, Answer, Curves, Header, Held, Input, Library, Plain, Random, Refusal,
+    ID_ROW, NUMBER_ROW,
 };
 
 #[derive(Clone, Copy, Debug, PartialEq, Eq)]
@@ -318,9 +321,7 @@ fn last_mark(lines: &[String]) -> Refusal {
     }
 }
 
-struct Faulty(Fault);
-
-impl Faulty {
+impl Faulty<Fault> {
     /// The text that the library gives for values, or its refusal.
     fn text(&self, held: &Held) -> Result<Vec<u8>, Refusal> {
         let mut changed = held.clone();
@@ -367,37 +368,7 @@ fn text_of(held: &Held) -> Result<Vec<u8>, Refusal> {
     Ok(text)
 }
 
-impl Library for Faulty {
-    fn name(&self) -> &'static str {
-        "faulty"
-    }
-
-    fn book(&self, record: &mut RecordNumbers, text: &[u8]) -> Refusal {
-        Plain.book(record, text)
-    }
-
-    fn settle(
-        &self,
-        record: &RecordNumbers,
-        voll: i64,
-        floor: i64,
-        curves: &mut Curves,
-    ) -> Refusal {
-        Plain.settle(record, voll, floor, curves)
-    }
-
-    fn read_curves(&self, text: &[u8], curves: &mut Curves) -> Refusal {
-        Plain.read_curves(text, curves)
-    }
-
-    fn curves_length(&self, curves: &Curves, length: &mut usize) -> Refusal {
-        Plain.curves_length(curves, length)
-    }
-
-    fn write_curves(&self, curves: &Curves, buffer: &mut [u8], written: &mut i64) -> Refusal {
-        Plain.write_curves(curves, buffer, written)
-    }
-
+impl Spoils for Faulty<Fault> {
     fn price(&self, curves: &Curves, text: &[u8], answer: &mut Answer) -> Refusal {
         let before = *answer;
         // 1 and 2 come first in a faulty library too.
@@ -414,10 +385,6 @@ impl Library for Faulty {
             answer[4] += 1;
         }
         refusal
-    }
-
-    fn write_page(&self, curves: &Curves, buffer: &mut [u8]) -> Refusal {
-        Plain.write_page(curves, buffer)
     }
 
     fn read_snapshot(
@@ -503,17 +470,6 @@ impl Library for Faulty {
             }
         }
     }
-}
-
-/// The smallest input found on which the fault shows.
-fn smallest(fault: Fault) -> Input {
-    let differs = |input: &Input| run(&Faulty(fault), input) != run(&Plain, input);
-    let inputs = (0..50_000).map(|place| input(&mut Random::at(7, place)));
-    let found = inputs.into_iter().find(|input| differs(input));
-    let found = found.unwrap_or_else(|| panic!("{fault:?} is not found"));
-    let smallest = shrink(&found, differs);
-    assert!(differs(&smallest));
-    smallest
 }
 
 /// Whether an input carries marks.
