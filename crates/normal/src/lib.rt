@@ -18,7 +18,7 @@ struct Interval {
 }
 
 // A quotient and what the division leaves.
-#[derive(Drop)]
+#[derive(Clone, Copy)]
 struct Quotient {
     whole: u64,
     rest: u64,

@@ -6,7 +6,7 @@ pub mod online;
 pub mod suspect;
 
 // The kinds of generator: other intermittent units are Irr.
-#[derive(Drop)]
+#[derive(Clone, Copy)]
 pub enum Kind {
     Gen,
     Wind,
@@ -14,7 +14,7 @@ pub enum Kind {
     Nuke,
 }
 
-#[derive(Drop)]
+#[derive(Clone, Copy)]
 pub enum Status {
     On,
     Off,
@@ -27,7 +27,7 @@ pub enum Status {
 
 // Power in kW; cold30 is a flag, 0 or 1. In each kind of resource `marks` says which of its numbers are marked suspect, in the order of its lines: 1 for the first,
 // 2 for the second, 4 for the third, and so on.
-#[derive(Drop)]
+#[derive(Clone, Copy)]
 pub struct Generator {
     pub kind: Kind,
     pub status: Status,
@@ -41,7 +41,7 @@ pub struct Generator {
 }
 
 // A controllable load resource, in kW.
-#[derive(Drop)]
+#[derive(Clone, Copy)]
 pub struct Controllable {
     pub base: i32,
     pub lpc: i32,
@@ -51,7 +51,7 @@ pub struct Controllable {
 }
 
 // Another load resource, in kW; rrsok is a flag, 0 or 1.
-#[derive(Drop)]
+#[derive(Clone, Copy)]
 pub struct Load {
     pub rrsok: i32,
     pub net: i32,
@@ -60,7 +60,7 @@ pub struct Load {
     pub marks: u64,
 }
 
-#[derive(Drop)]
+#[derive(Clone, Copy)]
 pub enum Resource {
     Generator(Generator),
     Controllable(Controllable),

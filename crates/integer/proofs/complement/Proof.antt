@@ -19,14 +19,14 @@ nonneg a = rw (view a) (simp to_ℕ (omega arith))
 is : (a : ℤ) → a <ℤ pos 0 → a ≡ negsuc (nat_abs (negsuc 0 -ℤ a))
 is a = rw (view a) (simp to_ℕ (omega arith))
 
-sub-result : tie.Need-overflow-sub-result
+sub-result : tie.Need-overflow_sub-result
 sub-result c = rw (to_z-of_z c.ranges.a) (fits c.args.a c.ranges.a c.requires)
 
-cast-result : tie.Need-overflow-cast-result
+cast-result : tie.Need-overflow_cast-result
 cast-result c = rw (to_z-of_z c.ranges.a) (cast_asks (negsuc 0 -ℤ c.args.a) (fits c.args.a c.ranges.a c.requires) (nonneg c.args.a c.requires))
 
 returns : tie.Need-returns
 returns c = rw (to_z-of_z c.ranges.a, to_z-of_z (fits c.args.a c.ranges.a c.requires)) (is c.args.a c.requires)
 
-pub complement-spec : {M : Type 1} → statement M
-complement-spec = tie.close (tie.spec sub-result cast-result returns)
+pub complement_spec : {M : Type 1} → statement M
+complement_spec = tie.close (tie.spec sub-result cast-result returns)

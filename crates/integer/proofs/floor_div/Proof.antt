@@ -36,44 +36,44 @@ below : (q : ℕ) → SFits w64 (negsuc q) → negsuc 0 -ℤ to_z w64 q ≡ negs
 below q f = rw (to_z-of_z (same-range q f)) (simp to_ℕ (omega arith))
 
 complement-requires : tie.Need-complement-requires
-complement-requires c κs = rw (to_z-of_z c.before.ranges.a) (less_taken c.before.args.a (pos 0) c.before.ranges.a (sfits_lit tt) c.if1.true)
+complement-requires c κs = rw (to_z-of_z c.before.ranges.a) (less_taken c.before.args.a (pos 0) c.before.ranges.a (sfits_lit tt) c.if-a-lt0.true)
 
 quotient-requires : tie.Need-quotient-requires
 quotient-requires c κs = tt
 
-cast-result : tie.Need-overflow-cast-result
+cast-result : tie.Need-overflow_cast-result
 cast-result c =
     let s = c.before.before.before in
     same-range c.quotient.result (negative s.args.a c.before.complement.result s.args.n c.quotient.result s.ranges.a c.before.complement.ensures c.quotient.ensures).1
 
-sub-result : tie.Need-overflow-sub-result
+sub-result : tie.Need-overflow_sub-result
 sub-result c =
     let s = c.before.before.before in
     let f = (negative s.args.a c.before.complement.result s.args.n c.quotient.result s.ranges.a c.before.complement.ensures c.quotient.ensures).1 in
     rw (below c.quotient.result f) f
 
-cast-quotient : tie.Need-overflow-cast-quotient
-cast-quotient c = cast_asks c.before.args.a c.before.ranges.a (less_left c.before.args.a (pos 0) c.before.ranges.a (sfits_lit tt) c.if1.false)
+cast-quotient : tie.Need-overflow_cast-a
+cast-quotient c = cast_asks c.before.args.a c.before.ranges.a (less_left c.before.args.a (pos 0) c.before.ranges.a (sfits_lit tt) c.if-a-lt0.false)
 
-quotient-requires-2 : tie.Need-quotient-requires-2
+quotient-requires-2 : tie.Need-quotient-requires-else-a-lt0
 quotient-requires-2 c κs = tt
 
-cast-result-2 : tie.Need-overflow-cast-result-2
+cast-result-2 : tie.Need-overflow_cast-result-else-a-lt0
 cast-result-2 c =
     let s = c.before.before in
-    (positive s.args.a s.args.n c.quotient2.result s.ranges.a (less_left s.args.a (pos 0) s.ranges.a (sfits_lit tt) c.before.if1.false) c.quotient2.ensures).1
+    (positive s.args.a s.args.n c.quotient-else-a-lt0.result s.ranges.a (less_left s.args.a (pos 0) s.ranges.a (sfits_lit tt) c.before.if-a-lt0.false) c.quotient-else-a-lt0.ensures).1
 
-returns : tie.Need-returns
+returns : tie.Need-returns-then-a-lt0
 returns c =
     let s = c.before.before.before in
     let f = negative s.args.a c.before.complement.result s.args.n c.quotient.result s.ranges.a c.before.complement.ensures c.quotient.ensures in
     rw (below c.quotient.result f.1, to_z-of_z f.1) f.0
 
-returns-2 : tie.Need-returns-2
+returns-2 : tie.Need-returns-else-a-lt0
 returns-2 c =
     let s = c.before.before in
-    let f = positive s.args.a s.args.n c.quotient2.result s.ranges.a (less_left s.args.a (pos 0) s.ranges.a (sfits_lit tt) c.before.if1.false) c.quotient2.ensures in
+    let f = positive s.args.a s.args.n c.quotient-else-a-lt0.result s.ranges.a (less_left s.args.a (pos 0) s.ranges.a (sfits_lit tt) c.before.if-a-lt0.false) c.quotient-else-a-lt0.ensures in
     to_z-of_z f.1 ∙ f.0
 
-pub floor-div-spec : {M : Type 1} → statement M
-floor-div-spec = tie.close (tie.spec complement-requires quotient-requires cast-result sub-result cast-quotient quotient-requires-2 cast-result-2 returns returns-2)
+pub floor_div_spec : {M : Type 1} → statement M
+floor_div_spec = tie.close (tie.spec complement-requires quotient-requires cast-result sub-result cast-quotient quotient-requires-2 cast-result-2 returns returns-2)

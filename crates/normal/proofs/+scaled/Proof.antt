@@ -32,34 +32,34 @@ scaled_at t = and 0 scaled-kinds.ps (is 0 scaled-kinds.ps μ-scaled t) scaled.Pr
 abbrev scaled-below : ℕ → In 0 scaled-kinds.ps
 scaled-below t = and 0 scaled-kinds.ps (falls 0 scaled-kinds.ps ◌<◌ μ-scaled t) scaled.Pre
 
-scaled-returns : (t : ℕ) → scaled-lts.Need-returns (scaled-below t, scaled.Post, sum-reads.Asked, sum-reads.Learnt) (scaled_at t) scaled.Post
-scaled-returns t c = omega (arith, ap (λ (n : ℕ). n * c.before.args.rest) c.if1.true)
+scaled-returns : (t : ℕ) → scaled-lts.Need-returns-then-step-eq0 (scaled-below t, scaled.Post, sum-reads.Asked, sum-reads.Learnt) (scaled_at t) scaled.Post
+scaled-returns t c = omega (arith, ap (λ (n : ℕ). n * c.args.rest) c.if-step-eq0.true)
 
-scaled-scaled-requires : (t : ℕ) → scaled-lts.Need-scaled-requires (scaled-below t, scaled.Post, sum-reads.Asked, sum-reads.Learnt) (scaled_at t) scaled.Post
+scaled-scaled-requires : (t : ℕ) → scaled-lts.Need-scaled-half-requires (scaled-below t, scaled.Post, sum-reads.Asked, sum-reads.Learnt) (scaled_at t) scaled.Post
 scaled-scaled-requires t c κs = omega arith
 
-scaled-sum-requires : (t : ℕ) → scaled-lts.Need-sum-requires (scaled-below t, scaled.Post, sum-reads.Asked, sum-reads.Learnt) (scaled_at t) scaled.Post
+scaled-sum-requires : (t : ℕ) → scaled-lts.Need-sum-twice-requires (scaled-below t, scaled.Post, sum-reads.Asked, sum-reads.Learnt) (scaled_at t) scaled.Post
 scaled-sum-requires t c κs =
-    let a = c.before.before.args in
-    omega (arith, whole_le c.scaled.result.whole a.denominator (a.step / 2) a.rest (omega arith) (omega arith))
+    let a = c.args in
+    omega (arith, whole_le c.scaled-half.result.whole a.denominator (a.step / 2) a.rest (omega arith) (omega arith))
 
-scaled-returns-2 : (t : ℕ) → scaled-lts.Need-returns-2 (scaled-below t, scaled.Post, sum-reads.Asked, sum-reads.Learnt) (scaled_at t) scaled.Post
+scaled-returns-2 : (t : ℕ) → scaled-lts.Need-returns-then-step-eq0-2 (scaled-below t, scaled.Post, sum-reads.Asked, sum-reads.Learnt) (scaled_at t) scaled.Post
 scaled-returns-2 t c =
-    let a = c.before.before.before.before.args in
-    omega (arith, halves a.step a.rest, ap (λ (n : ℕ). n * a.rest) c.if2.true)
+    let a = c.args in
+    omega (arith, halves a.step a.rest, ap (λ (n : ℕ). n * a.rest) c.if-step-eq0-2.true)
 
-scaled-sum-requires-2 : (t : ℕ) → scaled-lts.Need-sum-requires-2 (scaled-below t, scaled.Post, sum-reads.Asked, sum-reads.Learnt) (scaled_at t) scaled.Post
+scaled-sum-requires-2 : (t : ℕ) → scaled-lts.Need-sum-requires (scaled-below t, scaled.Post, sum-reads.Asked, sum-reads.Learnt) (scaled_at t) scaled.Post
 scaled-sum-requires-2 t c κs =
-    let a = c.before.before.before.before.args in
-    omega (arith, whole_le c.before.sum.result.whole a.denominator a.step a.rest (omega (arith, halves a.step a.rest)) (omega arith))
+    let a = c.args in
+    omega (arith, whole_le c.sum-twice.result.whole a.denominator a.step a.rest (omega (arith, halves a.step a.rest)) (omega arith))
 
-scaled-returns-3 : (t : ℕ) → scaled-lts.Need-returns-3 (scaled-below t, scaled.Post, sum-reads.Asked, sum-reads.Learnt) (scaled_at t) scaled.Post
+scaled-returns-3 : (t : ℕ) → scaled-lts.Need-returns (scaled-below t, scaled.Post, sum-reads.Asked, sum-reads.Learnt) (scaled_at t) scaled.Post
 scaled-returns-3 t c =
-    let a = c.before.before.before.before.before.args in
-    omega (arith, halves a.step a.rest, ap (λ (n : ℕ). n * a.rest) (odd a.step c.before.if2.false))
+    let a = c.args in
+    omega (arith, halves a.step a.rest, ap (λ (n : ℕ). n * a.rest) (odd a.step c.if-step-eq0-2.false))
 
-pub +scaled-spec : {M : Type 1} → statement M
-+scaled-spec = close μ-scaled λ t. scaled-lts.spec (scaled-below t, scaled.Post, sum-reads.Asked, sum-reads.Learnt)
+pub +scaled_spec : {M : Type 1} → statement M
++scaled_spec = close μ-scaled λ t. scaled-lts.spec (scaled-below t, scaled.Post, sum-reads.Asked, sum-reads.Learnt)
     (scaled_at t)
     scaled.Post
     (scaled-returns t)

@@ -14,31 +14,31 @@ use Rattle.normal.proofs.both_halves.Tie as tie
 magnitude-requires : tie.Need-magnitude-requires
 magnitude-requires c κs = tt
 
-upper-half-requires : tie.Need-upper-half-requires
-upper-half-requires c κs = c.before.requires
+upper-half-requires : tie.Need-upper_half-value-requires
+upper-half-requires c κs = c.requires
 
 -- the numerator's bits, read back
-read : (c : tie.After-upper-half) → to_z w64 (of_z w64 c.before.before.args.numerator) ≡ c.before.before.args.numerator
-read c = to_z-of_z c.before.before.ranges.numerator
+read : (c : tie.After-upper_half-value) → to_z w64 (of_z w64 c.args.numerator) ≡ c.args.numerator
+read c = to_z-of_z c.ranges.numerator
 
-value : (c : tie.After-upper-half) → c.upper-half.result ≡ upper (nat_abs c.before.before.args.numerator) c.before.before.args.denominator
-value c = rw (c.upper-half.ensures, c.before.magnitude.ensures, read c)
+value : (c : tie.After-upper_half-value) → c.upper_half-value.result ≡ upper (nat_abs c.args.numerator) c.args.denominator
+value c = rw (c.upper_half-value.ensures, c.magnitude.ensures, read c)
 
-sub-result : tie.Need-overflow-sub-result
+sub-result : tie.Need-overflow_sub-result
 sub-result c =
-    let a = c.before.before.before.args in
-    omega (arith, value c.before, upper_range (nat_abs a.numerator) a.denominator)
+    let a = c.args in
+    omega (arith, value (c.before), upper_range (nat_abs a.numerator) a.denominator)
 
-returns : tie.Need-returns
+returns : tie.Need-returns-then-numerator-lt0
 returns c =
-    let a = c.before.before.before.args in
-    rw (value c.before) (sym (normal_below a.numerator a.denominator (rw (read c.before) at c.if1.true)))
+    let a = c.args in
+    rw (value (c.before)) (sym (normal_below a.numerator a.denominator (rw (read (c.before)) at c.if-numerator-lt0.true)))
 
-returns-2 : tie.Need-returns-2
+returns-2 : tie.Need-returns
 returns-2 c =
-    let a = c.before.before.before.args in
-    rw (value c.before) (sym (normal_above a.numerator a.denominator (rw (read c.before) at c.if1.false)))
+    let a = c.args in
+    rw (value (c.before)) (sym (normal_above a.numerator a.denominator (rw (read (c.before)) at c.if-numerator-lt0.false)))
 
-pub both-halves-spec : {M : Type 1} → statement M
-both-halves-spec =
+pub both_halves_spec : {M : Type 1} → statement M
+both_halves_spec =
     tie.close (tie.spec magnitude-requires upper-half-requires sub-result returns returns-2)

@@ -37,38 +37,38 @@ module _ (table : List ℕ) (k : ℕ) (is : (k < 500) × IsTable table) where
   step : get_or table (k + 1) 0 - get_or table k 0 ≡ knot (suc k) - knot k
   step = rw (high, low)
 
-mul_low : tie.Need-overflow-mul-low
+mul_low : tie.Need-offset_bounds-table-k
 mul_low c = omega arith
 
-element-copy-out-low : tie.Need-element-copy-out-low
+element-copy-out-low : tie.Need-bounds-table-k
 element-copy-out-low c = omega arith
 
-cast-low : tie.Need-overflow-cast-low
-cast-low c = low_fits c.before.args.table.now c.before.args.k c.before.requires
+cast-low : tie.Need-overflow_cast-low
+cast-low c = low_fits c.args.table.now c.args.k c.requires
 
-add-high : tie.Need-overflow-add-high
+add-high : tie.Need-overflow_add-high
 add-high c = omega arith
 
-mul-high : tie.Need-overflow-mul-high
+mul-high : tie.Need-offset_bounds-table-k-2
 mul-high c = omega arith
 
-element-copy-out-high : tie.Need-element-copy-out-high
+element-copy-out-high : tie.Need-bounds-table-k-2
 element-copy-out-high c = omega arith
 
-cast-high : tie.Need-overflow-cast-high
+cast-high : tie.Need-overflow_cast-high
 cast-high c =
-    let s = c.before.before in
+    let s = c in
     high_fits s.args.table.now s.args.k s.requires
 
-sub-t12 : tie.Need-overflow-sub-t12
+sub-t12 : tie.Need-overflow_sub-result
 sub-t12 c =
-    let s = c.before.before in
+    let s = c in
     rising s.args.table.now s.args.k s.requires
 
 returns : tie.Need-returns
 returns c =
-    let s = c.before.before in
+    let s = c in
     (low s.args.table.now s.args.k s.requires, step s.args.table.now s.args.k s.requires)
 
-pub interval-at-spec : {M : Type 1} → statement M
-interval-at-spec = tie.close (tie.spec mul_low element-copy-out-low cast-low add-high mul-high element-copy-out-high cast-high sub-t12 returns)
+pub interval_at_spec : {M : Type 1} → statement M
+interval_at_spec = tie.close (tie.spec mul_low element-copy-out-low cast-low add-high mul-high element-copy-out-high cast-high sub-t12 returns)

@@ -9,22 +9,22 @@ use lib.Arith.{digits_div}
 use Rattle.normal.proofs.share.Statement.{statement}
 use Rattle.normal.proofs.share.Tie as tie
 
-mul-result : tie.Need-overflow-mul-result
-mul-result c = omega (arith, mul-le-mul (le_of_lt c.before.requires.1) (le_of_lt c.if1.true))
+mul-result : tie.Need-overflow_mul-result
+mul-result c = omega (arith, mul-le-mul (le_of_lt c.requires.1) (le_of_lt c.if-rest-lt4398046511104.true))
 
-div-result : tie.Need-nonzero-div-result
+div-result : tie.Need-nonzero_div-result
 div-result c = omega arith
 
-returns : tie.Need-returns
+returns : tie.Need-returns-then-rest-lt4398046511104
 returns c = search rules
 
-scaled-requires : tie.Need-scaled-requires
+scaled-requires : tie.Need-scaled-q-requires
 scaled-requires c κs = search rules
 
-returns-2 : tie.Need-returns-2
+returns-2 : tie.Need-returns
 returns-2 c =
-    let q = c.scaled.ensures in
-    sym (digits_div c.scaled.result.whole q.1) ∙ ap (λ (x : ℕ). x / c.before.before.args.denominator) q.0
+    let q = c.scaled-q.ensures in
+    sym (digits_div c.scaled-q.result.whole q.1) ∙ ap (λ (x : ℕ). x / c.args.denominator) q.0
 
-pub share-spec : {M : Type 1} → statement M
-share-spec = tie.close (tie.spec mul-result div-result returns scaled-requires returns-2)
+pub share_spec : {M : Type 1} → statement M
+share_spec = tie.close (tie.spec mul-result div-result returns scaled-requires returns-2)

@@ -7,5 +7,5 @@ use Rattle.normal.proofs.table_of_knots.Tie as tie
 returns : tie.Need-returns
 returns c = is_table _ refl refl
 
-pub table-of-knots-spec : {M : Type 1} → statement M
-table-of-knots-spec = tie.close (tie.spec returns)
+pub table_of_knots_spec : {M : Type 1} → statement M
+table_of_knots_spec = tie.close (tie.spec returns)

@@ -25,55 +25,55 @@ between : (n d : ℕ) {low step part : ℕ} → low ≡ knot (n / d) → step �
 unfolding interpolated
 between n d l s p h = rw (p, s, l, upper_inside n d h)
 
-returns : tie.Need-returns
-returns c = sym (upper_above c.before.args.numerator c.before.args.denominator (omega arith))
+returns : tie.Need-returns-then-denominator-eq0
+returns c = sym (upper_above c.args.numerator c.args.denominator (omega arith))
 
-positive : (c : tie.Else1) → 0 < c.before.args.denominator
+positive : (c : tie.Else-denominator-eq0) → 0 < c.args.denominator
 positive c = omega arith
 
-div-k : tie.Need-nonzero-div-k
+div-k : tie.Need-nonzero_div-k
 div-k c = omega arith
 
-returns-2 : tie.Need-returns-2
+returns-2 : tie.Need-returns-then-k-ge500
 returns-2 c =
-    let a = c.before.before.args in
-    sym (upper_above a.numerator a.denominator ((le-div_iff_mul-le (positive c.before)).0 c.if2.true))
+    let a = c.args in
+    sym (upper_above a.numerator a.denominator ((le-div_iff_mul-le (positive (c.before))).0 c.if-k-ge500.true))
 
-interval-at-requires : tie.Need-interval-at-requires
-interval-at-requires c κs = (c.if2.false, c.before.before.requires)
+interval-at-requires : tie.Need-interval_at-interval-requires
+interval-at-requires c κs = (c.if-k-ge500.false, c.requires)
 
-rem-share : tie.Need-nonzero-rem-share
-rem-share c = div-k c.before.before
+rem-share : tie.Need-nonzero_rem-numerator
+rem-share c = omega arith
 
 share-requires : tie.Need-share-requires
 share-requires c κs =
-    let test = c.before in
-    let a = test.before.before.args in
-    (mod-lt a.numerator {m = a.denominator} (positive test.before), step_small test.if2.false c.interval-at.ensures.1)
+    let test = c in
+    let a = test.args in
+    (mod-lt a.numerator {m = a.denominator} (positive (c.before.before)), step_small test.if-k-ge500.false c.interval_at-interval.ensures.1)
 
-abbrev start : tie.After-struct-known → tie.Start
+abbrev start : tie.After-struct_known-1 → tie.Start
 start c = c.before.before.before.before.before
 
-value : (c : tie.After-struct-known) →
+value : (c : tie.After-struct_known-1) →
     let a = (start c).args in
-    c.before.before.interval-at.result.low + c.before.share.result ≡ upper a.numerator a.denominator
+    c.interval_at-interval.result.low + c.share.result ≡ upper a.numerator a.denominator
 value c =
-    let i = c.before.before in
-    let test = i.before in
+    let i = c in
+    let test = i in
     let a = (start c).args in
-    between a.numerator a.denominator i.interval-at.ensures.0 i.interval-at.ensures.1 c.before.share.ensures
-    ((div-lt_iff_lt-mul (positive test.before)).0 test.if2.false)
+    between a.numerator a.denominator i.interval_at-interval.ensures.0 i.interval_at-interval.ensures.1 c.share.ensures
+    ((div-lt_iff_lt-mul (positive (c.before.before.before.before))).0 test.if-k-ge500.false)
 
-add-result : tie.Need-overflow-add-result
+add-result : tie.Need-overflow_add-result
 add-result c =
     let a = (start c).args in
     rw (value c) (fits (upper_range a.numerator a.denominator).1)
 
-returns-3 : tie.Need-returns-3
+returns-3 : tie.Need-returns
 returns-3 c = value c
 
-pub upper-half-spec : {M : Type 1} → statement M
-upper-half-spec =
+pub upper_half_spec : {M : Type 1} → statement M
+upper_half_spec =
     tie.close
     (tie.spec
     returns

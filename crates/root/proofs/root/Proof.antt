@@ -13,10 +13,10 @@ use Rattle.root.proofs.root.Tie as tie
 abbrev Near : (x r : ℕ) → Type 0
 Near x r = (x < (r + 1) * (r + 1)) × (0 < r) × (r ≤ 2 ^ 32)
 
-abbrev invariant-loop : tie.invariant-loop
+abbrev invariant-loop : tie.invariant-loop-r
 invariant-loop x r₀ r = Near x r
 
-abbrev decreases-loop : tie.decreases-loop
+abbrev decreases-loop : tie.decreases-loop-r
 decreases-loop x r₀ r = r
 
 -- z leading zeros and the length m make 64
@@ -42,42 +42,42 @@ step x r p inv h =
     positive zero a = omega arith
     positive (suc s) a = omega arith
 
-returns : tie.Need-returns invariant-loop decreases-loop
-returns c = rw c.if1.true (root_unique 0 0 (omega arith))
+returns : tie.Need-returns-then-x-eq0 invariant-loop decreases-loop
+returns c = rw c.if-x-eq0.true (root_unique 0 0 (omega arith))
 
-sub-r : tie.Need-overflow-sub-r invariant-loop decreases-loop
-sub-r c = omega (arith, leading_le 64 c.before.args.x)
+sub-r : tie.Need-overflow_sub-r invariant-loop decreases-loop
+sub-r c = omega (arith, leading_le 64 c.args.x)
 
-cast-r : tie.Need-overflow-cast-r invariant-loop decreases-loop
-cast-r c = omega (arith, half-small (count_leading_zeros 64 c.before.args.x))
+cast-r : tie.Need-overflow_cast-r invariant-loop decreases-loop
+cast-r c = omega (arith, half-small (count_leading_zeros 64 c.args.x))
 
-shl-r : tie.Need-overflow-shl-r invariant-loop decreases-loop
-shl-r c = omega (arith, half-small (count_leading_zeros 64 c.before.args.x))
+shl-r : tie.Need-overflow_shl-r invariant-loop decreases-loop
+shl-r c = omega (arith, half-small (count_leading_zeros 64 c.args.x))
 
-loop-holds : tie.Need-loop-init invariant-loop decreases-loop
+loop-holds : tie.Need-loop-r-init invariant-loop decreases-loop
 loop-holds c =
-    let x = c.before.args.x in
-    subst (λ (r : ℕ). Near x r) (sym (shifted ((65 - count_leading_zeros 64 x) / 2) (half-small (count_leading_zeros 64 x)))) (first x c.before.ranges.x.fits)
+    let x = c.args.x in
+    subst (λ (r : ℕ). Near x r) (sym (shifted ((65 - count_leading_zeros 64 x) / 2) (half-small (count_leading_zeros 64 x)))) (first x c.ranges.x.fits)
 
-div-loop : tie.Need-nonzero-div-loop invariant-loop decreases-loop
-div-loop c = c.loop.invariant.1
+div-loop : tie.Need-nonzero_div-x invariant-loop decreases-loop
+div-loop c = c.loop-r.invariant.1
 
-div-r : tie.Need-nonzero-div-r invariant-loop decreases-loop
-div-r c = c.before.loop.invariant.1
+div-r : tie.Need-nonzero_div-r-in-loop-r invariant-loop decreases-loop
+div-r c = c.loop-r.invariant.1
 
-add_r : tie.Need-overflow-add-r invariant-loop decreases-loop
+add_r : tie.Need-overflow_add-r invariant-loop decreases-loop
 add_r c = omega arith
 
-loop-less : tie.Need-loop-smaller invariant-loop decreases-loop
-loop-less c = newton_below c.before.before.before.args.x c.before.loop.r c.loop-test.true
+loop-less : tie.Need-loop-r-smaller invariant-loop decreases-loop
+loop-less c = newton_below c.args.x c.loop-r.r c.loop-r-test.true
 
-loop-again : tie.Need-loop-preserved invariant-loop decreases-loop
-loop-again c = step c.before.before.before.args.x c.before.loop.r (omega arith) c.before.loop.invariant c.loop-test.true
+loop-again : tie.Need-loop-r-preserved invariant-loop decreases-loop
+loop-again c = step c.args.x c.loop-r.r (omega arith) c.loop-r.invariant c.loop-r-test.true
 
-returns-2 : tie.Need-returns-2 invariant-loop decreases-loop
+returns-2 : tie.Need-returns invariant-loop decreases-loop
 returns-2 c =
-    let i = c.before.loop.invariant in
-    root_unique c.before.before.before.args.x c.before.loop.r ((le-div_iff_mul-le i.1).0 c.loop-test.false, i.0)
+    let i = c.loop-r.invariant in
+    root_unique c.args.x c.loop-r.r ((le-div_iff_mul-le i.1).0 c.loop-r-test.false, i.0)
 
-pub root-spec : {M : Type 1} → statement M
-root-spec = tie.close (tie.spec invariant-loop decreases-loop returns sub-r cast-r shl-r loop-holds div-loop div-r add_r loop-less loop-again returns-2)
+pub root_spec : {M : Type 1} → statement M
+root_spec = tie.close (tie.spec invariant-loop decreases-loop returns sub-r cast-r shl-r loop-holds div-loop div-r add_r loop-less loop-again returns-2)

@@ -5,30 +5,30 @@ use native.Mathlib.Omega.{arith}
 use Rattle.text_id.proofs.is_id_byte.Statement.{statement}
 use Rattle.text_id.proofs.is_id_byte.Tie as tie
 
-returns : tie.Need-returns
+returns : tie.Need-returns-then-byte-lt48
 returns c =
-    let b : ℕ = c.before.args.byte in
+    let b : ℕ = c.args.byte in
     rw (lt-leb 48 b (omega arith), lt-leb 65 b (omega arith), ne_eqb b 95 (omega arith))
 
-returns-2 : tie.Need-returns-2
+returns-2 : tie.Need-returns-then-byte-le57
 returns-2 c =
-    let b : ℕ = c.before.before.args.byte in
+    let b : ℕ = c.args.byte in
     rw (le-leb 48 b (omega arith), le-leb b 57 (omega arith))
 
-returns-3 : tie.Need-returns-3
+returns-3 : tie.Need-returns-then-byte-lt65
 returns-3 c =
-    let b : ℕ = c.before.before.before.args.byte in
+    let b : ℕ = c.args.byte in
     rw (le-leb 48 b (omega arith), lt-leb b 57 (omega arith), lt-leb 65 b (omega arith), ne_eqb b 95 (omega arith))
 
-returns-4 : tie.Need-returns-4
+returns-4 : tie.Need-returns-then-byte-le90
 returns-4 c =
-    let b : ℕ = c.before.before.before.before.args.byte in
+    let b : ℕ = c.args.byte in
     rw (le-leb 48 b (omega arith), lt-leb b 57 (omega arith), le-leb 65 b (omega arith), le-leb b 90 (omega arith))
 
-returns-5 : tie.Need-returns-5
+returns-5 : tie.Need-returns
 returns-5 c =
-    let b : ℕ = c.before.before.before.before.args.byte in
+    let b : ℕ = c.args.byte in
     rw (le-leb 48 b (omega arith), lt-leb b 57 (omega arith), le-leb 65 b (omega arith), lt-leb b 90 (omega arith))
 
-pub is-id-byte-spec : {M : Type 1} → statement M
-is-id-byte-spec = tie.close (tie.spec returns returns-2 returns-3 returns-4 returns-5)
+pub is_id_byte_spec : {M : Type 1} → statement M
+is_id_byte_spec = tie.close (tie.spec returns returns-2 returns-3 returns-4 returns-5)

@@ -8,44 +8,44 @@ use native.Mathlib.Omega.{arith}
 use Rattle.text_id_table.proofs.before_mark.Statement.{statement}
 use Rattle.text_id_table.proofs.before_mark.Tie as tie
 
-abbrev invariant-loop : tie.invariant-loop
+abbrev invariant-loop : tie.invariant-loop-end
 invariant-loop bytes mark end₀ end = BeforeFrom mark bytes end
 
-abbrev decreases-loop : tie.decreases-loop
+abbrev decreases-loop : tie.decreases-loop-end
 decreases-loop bytes mark end₀ end = length bytes - end
 
-loop-holds : tie.Need-loop-init invariant-loop decreases-loop
+loop-holds : tie.Need-loop-end-init invariant-loop decreases-loop
 loop-holds c = before_start _ _
 
-shared-slice-read-if1 : tie.Need-shared-slice-read-if1 invariant-loop decreases-loop
+shared-slice-read-if1 : tie.Need-bounds-bytes-end invariant-loop decreases-loop
 shared-slice-read-if1 c = omega arith
 
-slice-aggregate-result : tie.Need-slice-aggregate-result invariant-loop decreases-loop
+slice-aggregate-result : tie.Need-slice_bounds-result-end invariant-loop decreases-loop
 slice-aggregate-result c =
-    let turn = c.before.before.before in
-    sym (length-take-le turn.before.loop.end turn.before.before.args.bytes.now (omega (arith, turn.loop-test.true)))
+    let turn = c in
+    sym (length-take-le turn.loop-end.end turn.args.bytes.now (omega (arith, turn.loop-end-test.true)))
 
-returns : tie.Need-returns invariant-loop decreases-loop
+returns : tie.Need-returns-then-bytes-end invariant-loop decreases-loop
 returns c =
-    let turn = c.before.before.before in
-    before_marked turn.before.loop.invariant turn.loop-test.true c.before.if1.true
+    let turn = c in
+    before_marked turn.loop-end.invariant turn.loop-end-test.true c.if-bytes-end.true
 
-add-end : tie.Need-overflow-add-end invariant-loop decreases-loop
+add-end : tie.Need-overflow_add-end invariant-loop decreases-loop
 add-end c = omega arith
 
-loop-less : tie.Need-loop-smaller invariant-loop decreases-loop
+loop-less : tie.Need-loop-end-smaller invariant-loop decreases-loop
 loop-less c = omega arith
 
-loop-again : tie.Need-loop-preserved invariant-loop decreases-loop
+loop-again : tie.Need-loop-end-preserved invariant-loop decreases-loop
 loop-again c =
-    let turn = c.before.before in
-    before_more turn.before.loop.invariant turn.loop-test.true c.if1.false
+    let turn = c in
+    before_more turn.loop-end.invariant turn.loop-end-test.true c.if-bytes-end.false
 
-returns-2 : tie.Need-returns-2 invariant-loop decreases-loop
-returns-2 c = before_over c.before.loop.invariant c.loop-test.false
+returns-2 : tie.Need-returns invariant-loop decreases-loop
+returns-2 c = before_over c.loop-end.invariant c.loop-end-test.false
 
-pub before-mark-spec : {M : Type 1} → statement M
-before-mark-spec =
+pub before_mark_spec : {M : Type 1} → statement M
+before_mark_spec =
     tie.close
     (tie.spec
     invariant-loop

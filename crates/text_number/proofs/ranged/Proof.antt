@@ -6,29 +6,29 @@ use Rattle.text_number.proofs.Numbers.{negative_some}
 use Rattle.text_number.proofs.ranged.Statement.{statement}
 use Rattle.text_number.proofs.ranged.Tie as tie
 
-returns : tie.Need-returns
+returns : tie.Need-returns-then-magnitude-eq0
 returns c = search rules
 
-sub-in-range : tie.Need-overflow-sub-in-range
+sub-in-range : tie.Need-overflow_sub-magnitude
 sub-in-range c = search rules
 
-in-range-requires : tie.Need-in-range-requires
+in-range-requires : tie.Need-in_range-requires
 in-range-requires c κs = tt
 
-returns-2 : tie.Need-returns-2
+returns-2 : tie.Need-returns-then-negative
 returns-2 c =
-    let s = c.before.before.before in
-    rw (c.in-range.ensures, to_z-of_z s.ranges.low, to_z-of_z s.ranges.high, c.before.before.if1.true, negative_some s.args.magnitude (omega (arith, c.before.if2.false)))
+    let s = c in
+    rw (c.in_range.ensures, to_z-of_z s.ranges.low, to_z-of_z s.ranges.high, c.if-negative.true, negative_some s.args.magnitude (omega (arith, c.if-magnitude-eq0.false)))
 
-in-range-requires-2 : tie.Need-in-range-requires-2
+in-range-requires-2 : tie.Need-in_range-requires-2
 in-range-requires-2 c κs = tt
 
-returns-3 : tie.Need-returns-3
+returns-3 : tie.Need-returns
 returns-3 c =
-    let s = c.before.before in
-    rw (c.in-range2.ensures, to_z-of_z s.ranges.low, to_z-of_z s.ranges.high, c.before.if1.false)
+    let s = c in
+    rw (c.in_range-2.ensures, to_z-of_z s.ranges.low, to_z-of_z s.ranges.high, c.if-negative.false)
 
-pub ranged-spec : {M : Type 1} → statement M
-ranged-spec =
+pub ranged_spec : {M : Type 1} → statement M
+ranged_spec =
     tie.close
     (tie.spec returns sub-in-range in-range-requires returns-2 in-range-requires-2 returns-3)

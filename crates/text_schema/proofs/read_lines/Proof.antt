@@ -15,141 +15,141 @@ use native.Mathlib.Omega.{arith}
 use Rattle.text_schema.proofs.read_lines.Statement.{statement}
 use Rattle.text_schema.proofs.read_lines.Tie as tie
 
-abbrev invariant-loop : tie.invariant-loop
+abbrev invariant-loop : tie.invariant-loop-i
 invariant-loop text at keys lows highs out₀ lines next₀ from₀ i₀ out next from i = LinesFrom text at keys lows highs out₀ out next from i
 
-abbrev decreases-loop : tie.decreases-loop
+abbrev decreases-loop : tie.decreases-loop-i
 decreases-loop text at keys lows highs out₀ lines next₀ from₀ i₀ out next from i = lines - i
 
 least-requires : tie.Need-least-requires invariant-loop decreases-loop
 least-requires c κs = tt
 
-least-requires-2 : tie.Need-least-requires-2 invariant-loop decreases-loop
+least-requires-2 : tie.Need-least-lines-requires invariant-loop decreases-loop
 least-requires-2 c κs = tt
 
-loop-holds : tie.Need-loop-init invariant-loop decreases-loop
+loop-holds : tie.Need-loop-i-init invariant-loop decreases-loop
 loop-holds c = lines_start _ _ _ _ _ _
 
 -- how many lines have bounds and a place
-abbrev lineCount : tie.After-least2 invariant-loop decreases-loop → ℕ
+abbrev lineCount : tie.After-least-lines invariant-loop decreases-loop → ℕ
 lineCount c =
-    let a = c.before.before.before.before.args in
+    let a = c.args in
     min (length a.out.now) (min (length a.lows.now) (length a.highs.now))
 
-counted : (c : tie.After-least2 invariant-loop decreases-loop) → c.least2.result ≡ lineCount c
-counted c = rw (← c.before.least.ensures) c.least2.ensures
+counted : (c : tie.After-least-lines invariant-loop decreases-loop) → c.least-lines.result ≡ lineCount c
+counted c = rw (← c.least.ensures) c.least-lines.ensures
 
-left : (c : tie.In-loop invariant-loop decreases-loop) → c.before.loop.i < lineCount c.before.before
-left c = rw (counted c.before.before) at c.loop-test.true
+left : (c : tie.In-loop-i invariant-loop decreases-loop) → c.loop-i.i < lineCount (c.before.before)
+left c = rw (counted (c.before.before)) at c.loop-i-test.true
 
-piece-end-requires : tie.Need-piece-end-requires invariant-loop decreases-loop
+piece-end-requires : tie.Need-piece_end-end-requires invariant-loop decreases-loop
 piece-end-requires c κs = tt
 
-same_length : tie.Need-same-length invariant-loop decreases-loop
-same_length c = c.before.before.before.loop.invariant.long
+same_length : tie.Need-shape_of-out-then-end-from invariant-loop decreases-loop
+same_length c = c.loop-i.invariant.long
 
-returns : tie.Need-returns invariant-loop decreases-loop
-returns c = lines_keys c.before.before.before.loop.invariant c.before.piece-end.ensures c.if1.true
+returns : tie.Need-returns-then-end-from invariant-loop decreases-loop
+returns c = lines_keys c.loop-i.invariant c.piece_end-end.ensures c.if-end-from.true
 
-part-requires : tie.Need-part-requires invariant-loop decreases-loop
+part-requires : tie.Need-part-key-requires invariant-loop decreases-loop
 part-requires c κs = tt
 
-line-value-requires : tie.Need-line-value-requires invariant-loop decreases-loop
+line-value-requires : tie.Need-line_value-value-requires invariant-loop decreases-loop
 line-value-requires c κs = tt
 
-mul-number-of : tie.Need-overflow-mul-number-of invariant-loop decreases-loop
+mul-number-of : tie.Need-offset_bounds-lows-i invariant-loop decreases-loop
 mul-number-of c = omega arith
 
-shared-slice-copy-out-number-of : tie.Need-shared-slice-copy-out-number-of invariant-loop decreases-loop
-shared-slice-copy-out-number-of c = omega (arith, left c.before.before.before.before)
+shared-slice-copy-out-number-of : tie.Need-bounds-lows-i invariant-loop decreases-loop
+shared-slice-copy-out-number-of c = omega (arith, left (c.before.before.before.before))
 
-mul-number-of-2 : tie.Need-overflow-mul-number-of-2 invariant-loop decreases-loop
+mul-number-of-2 : tie.Need-offset_bounds-highs-i invariant-loop decreases-loop
 mul-number-of-2 c = omega arith
 
-shared-slice-copy-out-number-of-2 : tie.Need-shared-slice-copy-out-number-of-2 invariant-loop decreases-loop
-shared-slice-copy-out-number-of-2 c = omega (arith, left c.before.before.before.before.before)
+shared-slice-copy-out-number-of-2 : tie.Need-bounds-highs-i invariant-loop decreases-loop
+shared-slice-copy-out-number-of-2 c = omega (arith, left (c.before.before.before.before.before))
 
-number-of-requires : tie.Need-number-of-requires invariant-loop decreases-loop
+number-of-requires : tie.Need-number_of-n-requires invariant-loop decreases-loop
 number-of-requires c κs = tt
 
-enum-known-n : tie.Need-enum-known-n invariant-loop decreases-loop
-enum-known-n c = c.match.keys1
+enum-known-n : tie.Need-enum_known-n invariant-loop decreases-loop
+enum-known-n c = c.in-Value-1.keys1
 
-number-refusal-requires : tie.Need-number-refusal-requires invariant-loop decreases-loop
+number-refusal-requires : tie.Need-number_refusal-requires invariant-loop decreases-loop
 number-refusal-requires c κs = tt
 
-value-fault-requires : tie.Need-value-fault-requires invariant-loop decreases-loop
+value-fault-requires : tie.Need-value_fault-requires invariant-loop decreases-loop
 value-fault-requires c κs = tt
 
 -- a turn, seen from where the number was read: its key is due, its bounds are those at the place
-abbrev turn : tie.After-number-of invariant-loop decreases-loop → tie.In-loop invariant-loop decreases-loop
+abbrev turn : tie.After-number_of-n invariant-loop decreases-loop → tie.In-loop-i invariant-loop decreases-loop
 turn c = c.before.before.before.before.before.before.before
 
-is_number : (c : tie.After-number-of invariant-loop decreases-loop) → c.number_of_lem.result ≡ number_in (value (turn c).before.before.before.before.before.before.args.lows.now (turn c).before.loop.i) (value (turn c).before.before.before.before.before.before.args.highs.now (turn c).before.loop.i) c.before.before.before.line-value.result.now
-is_number c = c.number_of_lem.ensures ∙ rw (to_z-of_z (sfits_of c.before.before.number-of-arg.given), to_z-of_z (sfits_of c.before.number-of-arg2.given))
+is_number : (c : tie.After-number_of-n invariant-loop decreases-loop) → c.number_of-n.result ≡ number_in (value (turn c).args.lows.now (turn c).loop-i.i) (value (turn c).args.highs.now (turn c).loop-i.i) c.line_value-value.result.now
+is_number c = c.number_of-n.ensures ∙ rw (to_z-of_z (sfits_of c.number_of-arg-1.given), to_z-of_z (sfits_of c.number_of-arg-in-loop-i-1.given))
 
-same-length-2 : tie.Need-same-length-2 invariant-loop decreases-loop
-same-length-2 c = (turn c.before.before.before).before.loop.inv.long
+same-length-2 : tie.Need-shape_of-out-in_default invariant-loop decreases-loop
+same-length-2 c = (turn (c.before.before.before)).loop-i.invariant.long
 
-returns-2 : tie.Need-returns-2 invariant-loop decreases-loop
+returns-2 : tie.Need-returns-in_default invariant-loop decreases-loop
 returns-2 c =
-    let n = c.before.before.before in
-    let v = n.before.before.before in
-    let p = v.before in
-    let e = p.before in
-    lines_refused (turn n).before.loop.invariant e.before.piece-end.ensures e.if1.false (left (turn n)) p.part.ensures v.line-value.ensures (is_number n) (not_taken _ c.before.before.match.keys2) c.before.number-refusal.ensures c.value-fault.ensures
+    let n = c in
+    let v = n in
+    let p = v in
+    let e = p in
+    lines_refused (turn (c.before.before.before)).loop-i.invariant e.piece_end-end.ensures e.if-end-from.false (left (turn (c.before.before.before))) p.part-key.ensures v.line_value-value.ensures (is_number (c.before.before.before)) c.in_default.not-Value c.number_refusal.ensures c.value_fault.ensures
 
-mul-z : tie.Need-overflow-mul-z invariant-loop decreases-loop
+mul-z : tie.Need-offset_bounds-out-i invariant-loop decreases-loop
 mul-z c = omega arith
 
-slice-set-from-z : tie.Need-slice-set-from-z invariant-loop decreases-loop
+slice-set-from-z : tie.Need-bounds-out-i invariant-loop decreases-loop
 slice-set-from-z c =
-    let t = turn c.before.before.before in
-    omega (arith, left t, t.before.loop.inv.long)
+    let t = turn (c.before) in
+    omega (arith, left (c.before.before.before.before.before.before.before.before), t.loop-i.invariant.long)
 
 -- the line stands in the text
-within : (c : tie.After-known-told invariant-loop decreases-loop) → next_at (turn c.before.before.before).before.loop.next c.before.before.before.before.before.before.before.part.result.now c.before.before.before.before.before.before.line-value.result.now ≤ length (turn c.before.before.before).before.before.before.before.before.before.args.text.now
+within : (c : tie.In-Value invariant-loop decreases-loop) → next_at (turn (c.before)).loop-i.next c.part-key.result.now c.line_value-value.result.now ≤ length (turn (c.before)).args.text.now
 within c =
-    let n = c.before.before.before in
-    let v = n.before.before.before in
-    let p = v.before in
-    let e = p.before in
-    lines_within (turn n).before.loop.invariant e.before.piece-end.ensures e.if1.false (left (turn n)) p.part.ensures v.line-value.ensures (is_number n) c.before.n.given.1
+    let n = c in
+    let v = n in
+    let p = v in
+    let e = p in
+    lines_within (turn (c.before)).loop-i.invariant e.piece_end-end.ensures e.if-end-from.false (left (turn (c.before))) p.part-key.ensures v.line_value-value.ensures (is_number (c.before)) c.in-Value.is
 
-add-next : tie.Need-overflow-add-next invariant-loop decreases-loop
+add-next : tie.Need-overflow_add-next invariant-loop decreases-loop
 add-next c = omega (arith, within c)
 
-add-next-2 : tie.Need-overflow-add-next-2 invariant-loop decreases-loop
+add-next-2 : tie.Need-overflow_add-next-in-loop-i invariant-loop decreases-loop
 add-next-2 c = omega (arith, within c)
 
-add-next-3 : tie.Need-overflow-add-next-3 invariant-loop decreases-loop
+add-next-3 : tie.Need-overflow_add-next-in-loop-i-2 invariant-loop decreases-loop
 add-next-3 c = omega (arith, within c)
 
-add-i : tie.Need-overflow-add-i invariant-loop decreases-loop
+add-i : tie.Need-overflow_add-i invariant-loop decreases-loop
 add-i c = omega arith
 
-loop-less : tie.Need-loop-smaller invariant-loop decreases-loop
+loop-less : tie.Need-loop-i-smaller invariant-loop decreases-loop
 loop-less c = omega arith
 
-loop-again : tie.Need-loop-preserved invariant-loop decreases-loop
+loop-again : tie.Need-loop-i-preserved invariant-loop decreases-loop
 loop-again c =
-    let n = c.before.before.before in
-    let v = n.before.before.before in
-    let p = v.before in
-    let e = p.before in
-    rw (to_z-of_z {w = w64} {z = c.before.n.given.0.0} (sfits_of c.known-told.given.0.1))
-    (lines_more (turn n).before.loop.invariant e.before.piece-end.ensures e.if1.false (left (turn n)) p.part.ensures v.line-value.ensures (is_number n) c.before.n.given.1 (omega arith))
+    let n = c in
+    let v = n in
+    let p = v in
+    let e = p in
+    rw (to_z-of_z {w = w64} {z = c.in-Value.z} (sfits_of c.in-Value.known_told-1-own.given.0.1))
+    (lines_more (turn (c.before)).loop-i.invariant e.piece_end-end.ensures e.if-end-from.false (left (turn (c.before))) p.part-key.ensures v.line_value-value.ensures (is_number (c.before)) c.in-Value.is (omega arith))
 
-same-length-3 : tie.Need-same-length-3 invariant-loop decreases-loop
-same-length-3 c = c.before.loop.invariant.long
+same-length-3 : tie.Need-shape_of-out invariant-loop decreases-loop
+same-length-3 c = c.loop-i.invariant.long
 
-returns-3 : tie.Need-returns-3 invariant-loop decreases-loop
+returns-3 : tie.Need-returns invariant-loop decreases-loop
 returns-3 c =
-    let over = c.loop-test.false in
-    lines_full c.before.loop.invariant (rw (counted c.before.before) at over)
+    let over = c.loop-i-test.false in
+    lines_full c.loop-i.invariant (rw (counted (c.before.before)) at over)
 
-pub read-lines-spec : {M : Type 1} → statement M
-read-lines-spec =
+pub read_lines_spec : {M : Type 1} → statement M
+read_lines_spec =
     tie.close
     (tie.spec
     invariant-loop

@@ -4,17 +4,17 @@ use Rattle.integer.proofs.Signed.{less_taken, less_left}
 use Rattle.integer.proofs.range.is_within.Statement.{statement}
 use Rattle.integer.proofs.range.is_within.Tie as tie
 
-returns : tie.Need-returns
+returns : tie.Need-returns-then-z-low
 returns c =
     let a = c.before.args in
     let f = c.before.ranges in
-    rw (lt-le_z (less_taken a.z a.low f.z f.low c.if1.true))
+    rw (lt-le_z (less_taken a.z a.low f.z f.low c.if-z-low.true))
 
-returns-2 : tie.Need-returns-2
+returns-2 : tie.Need-returns
 returns-2 c =
     let a = c.before.args in
     let f = c.before.ranges in
-    rw (to_z-of_z f.z, to_z-of_z f.high, le-le_z (less_left a.z a.low f.z f.low c.if1.false))
+    rw (to_z-of_z f.z, to_z-of_z f.high, le-le_z (less_left a.z a.low f.z f.low c.if-z-low.false))
 
-pub is-within-spec : {M : Type 1} → statement M
-is-within-spec = tie.close (tie.spec returns returns-2)
+pub is_within_spec : {M : Type 1} → statement M
+is_within_spec = tie.close (tie.spec returns returns-2)

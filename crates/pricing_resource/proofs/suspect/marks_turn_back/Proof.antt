@@ -8,31 +8,31 @@ use Rattle.pricing_resource.proofs.suspect.marks_turn_back.Reads as reads
 use Rattle.pricing_resource.proofs.suspect.marks_turn_back.Lts as lts
 use Rattle.pricing_resource.proofs.suspect.verdict.Reads as verdict-reads
 
-enum-known-resource : tie.Need-enum-known-resource
+enum-known-resource : tie.Need-enum_known-resource
 enum-known-resource c = search rules
 
 verdict-requires : tie.Need-verdict-requires
 verdict-requires c κs = search rules
 
-enum_told : tie.Need-enum-told
+enum_told : tie.Need-enum_told-1
 enum_told c = search rules
 
-enum-told-2 : tie.Need-enum-told-2
+enum-told-2 : tie.Need-enum_told-in-Load
 enum-told-2 c = search rules
 
-returns : tie.Need-returns
+returns : tie.Need-returns-in-Generator
 returns c =
-    let told = c.before.before.before in
-    c.verdict.ensures ∙ rw (to_z-of_z (sfits_of c.before.struct_told.given.1.1.1.1.1.1.1.0.1), told.resource.given.1) (sym (generator_verdict told.resource.given.0.0))
+    let told = c in
+    c.verdict.ensures ∙ rw (to_z-of_z (sfits_of c.struct_told-1.given.1.1.1.1.1.1.1.0.1), told.in-Generator.is) (sym (generator_verdict told.in-Generator.g))
 
-returns-2 : tie.Need-returns-2
-returns-2 c = rw c.enum_told.given.1 (sym (controllable_verdict _))
+returns-2 : tie.Need-returns-in-Controllable
+returns-2 c = rw c.in-Controllable.is (sym (controllable_verdict _))
 
-returns-3 : tie.Need-returns-3
-returns-3 c = rw c.enum-told2.given.1 (sym (load_verdict _))
+returns-3 : tie.Need-returns-in-Load
+returns-3 c = rw c.in-Load.is (sym (load_verdict _))
 
-pub marks-turn-back-spec : {M : Type 1} → statement M
-marks-turn-back-spec =
+pub marks_turn_back_spec : {M : Type 1} → statement M
+marks_turn_back_spec =
     tie.close
     (tie.spec
     enum-known-resource

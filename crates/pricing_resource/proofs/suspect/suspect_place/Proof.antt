@@ -6,46 +6,46 @@ use Rattle.pricing_resource.proofs.Suspects.{before_few, lines_few, place_unmark
 use Rattle.pricing_resource.proofs.suspect.suspect_place.Statement.{statement}
 use Rattle.pricing_resource.proofs.suspect.suspect_place.Tie as tie
 
-marks-requires : tie.Need-marks-requires
+marks-requires : tie.Need-marks-held-requires
 marks-requires c κs = tt
 
-returns : tie.Need-returns
-returns c = sym (place_unmarked c.before.before.args.resource (sym c.before.marks.ensures ∙ c.if1.true))
+returns : tie.Need-returns-then-held-eq0
+returns c = sym (place_unmarked c.args.resource (sym c.marks-held.ensures ∙ c.if-held-eq0.true))
 
-marks-turn-back-requires : tie.Need-marks-turn-back-requires
+marks-turn-back-requires : tie.Need-marks_turn_back-requires
 marks-turn-back-requires c κs = tt
 
-returns-2 : tie.Need-returns-2
-returns-2 c = sym (place_fine c.before.before.before.before.args.resource (sym c.before.marks-turn-back.ensures ∙ not-true _ c.if2.true))
+returns-2 : tie.Need-returns-then-not-marks_turn_back
+returns-2 c = sym (place_fine c.args.resource (sym c.marks_turn_back.ensures ∙ c.if-not-marks_turn_back.true))
 
-lines-before-numbers-requires : tie.Need-lines-before-numbers-requires
+lines-before-numbers-requires : tie.Need-lines_before_numbers-requires
 lines-before-numbers-requires c κs = tt
 
-unmarked-before-requires : tie.Need-unmarked-before-requires
+unmarked-before-requires : tie.Need-unmarked_before-requires
 unmarked-before-requires c κs = tt
 
 -- the resource, and how few its lines are
-few : (c : tie.After-unmarked-before) → (c.before.lines-before-numbers.result ≤ 3) × (c.unmarked-before.result ≤ 5)
+few : (c : tie.After-unmarked_before) → (c.lines_before_numbers.result ≤ 3) × (c.unmarked_before.result ≤ 5)
 few c =
-    let read = c.before.before.before.before.before in
-    (rw c.before.lines-before-numbers.ensures (lines_few read.before.args.resource), rw c.unmarked-before.ensures (before_few 5 read.marks.result))
+    let read = c in
+    (rw c.lines_before_numbers.ensures (lines_few read.args.resource), rw c.unmarked_before.ensures (before_few 5 read.marks-held.result))
 
-add-result : tie.Need-overflow-add-result
+add-result : tie.Need-overflow_add-result
 add-result c = let f = few c in omega (arith, f.0, f.1)
 
-add-result-2 : tie.Need-overflow-add-result-2
+add-result-2 : tie.Need-overflow_add-result-2
 add-result-2 c = let f = few c in omega (arith, f.0, f.1)
 
-returns-3 : tie.Need-returns-3
+returns-3 : tie.Need-returns
 returns-3 c =
-    let tested = c.before.before in
-    let known = tested.before in
-    let read = known.before.before in
-    rw (c.before.lines-before-numbers.ensures, c.unmarked-before.ensures, read.marks.ensures)
-    (sym (place_suspect read.before.args.resource (sym known.marks-turn-back.ensures ∙ not-false _ tested.if2.false) (rw read.marks.ensures at known.before.if1.false)))
+    let tested = c in
+    let known = tested in
+    let read = known in
+    rw (c.lines_before_numbers.ensures, c.unmarked_before.ensures, read.marks-held.ensures)
+    (sym (place_suspect read.args.resource (sym known.marks_turn_back.ensures ∙ tested.if-not-marks_turn_back.false) (rw read.marks-held.ensures at known.if-held-eq0.false)))
 
-pub suspect-place-spec : {M : Type 1} → statement M
-suspect-place-spec =
+pub suspect_place_spec : {M : Type 1} → statement M
+suspect_place_spec =
     tie.close
     (tie.spec
     marks-requires

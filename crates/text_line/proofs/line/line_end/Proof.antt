@@ -8,35 +8,35 @@ use native.Mathlib.Omega.{arith}
 use Rattle.text_line.proofs.line.line_end.Statement.{statement}
 use Rattle.text_line.proofs.line.line_end.Tie as tie
 
-abbrev invariant-loop : tie.invariant-loop
+abbrev invariant-loop : tie.invariant-loop-i
 invariant-loop text at i₀ i = (i ≤ length text) × (i + line_length (drop i text) ≡ at + line_length (drop at text))
 
-abbrev decreases-loop : tie.decreases-loop
+abbrev decreases-loop : tie.decreases-loop-i
 decreases-loop text at i₀ i = length text - i
 
-loop-holds : tie.Need-loop-init invariant-loop decreases-loop
+loop-holds : tie.Need-loop-i-init invariant-loop decreases-loop
 loop-holds c = omega arith
 
-shared-slice-read-if1 : tie.Need-shared-slice-read-if1 invariant-loop decreases-loop
+shared-slice-read-if1 : tie.Need-bounds-text-i invariant-loop decreases-loop
 shared-slice-read-if1 c = omega arith
 
-returns : tie.Need-returns invariant-loop decreases-loop
-returns c = omega (arith, line_ends c.before.before.before.before.args.text.now c.before.before.before.loop.i c.before.before.loop-test.true c.if1.true)
+returns : tie.Need-returns-then-text-i-eq10 invariant-loop decreases-loop
+returns c = omega (arith, line_ends c.args.text.now c.loop-i.i c.loop-i-test.true c.if-text-i-eq10.true)
 
-add-i : tie.Need-overflow-add-i invariant-loop decreases-loop
+add-i : tie.Need-overflow_add-i invariant-loop decreases-loop
 add-i c = omega arith
 
-loop-less : tie.Need-loop-smaller invariant-loop decreases-loop
+loop-less : tie.Need-loop-i-smaller invariant-loop decreases-loop
 loop-less c = omega arith
 
-loop-again : tie.Need-loop-preserved invariant-loop decreases-loop
-loop-again c = omega (arith, line_goes_on c.before.before.before.before.args.text.now c.before.before.before.loop.i c.before.before.loop-test.true c.if1.false)
+loop-again : tie.Need-loop-i-preserved invariant-loop decreases-loop
+loop-again c = omega (arith, line_goes_on c.args.text.now c.loop-i.i c.loop-i-test.true c.if-text-i-eq10.false)
 
-returns-2 : tie.Need-returns-2 invariant-loop decreases-loop
-returns-2 c = omega (arith, line_over c.before.before.args.text.now c.before.loop.i c.loop-test.false)
+returns-2 : tie.Need-returns invariant-loop decreases-loop
+returns-2 c = omega (arith, line_over c.args.text.now c.loop-i.i c.loop-i-test.false)
 
-pub line-end-spec : {M : Type 1} → statement M
-line-end-spec =
+pub line_end_spec : {M : Type 1} → statement M
+line_end_spec =
     tie.close
     (tie.spec
     invariant-loop

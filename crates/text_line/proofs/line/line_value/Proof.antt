@@ -8,73 +8,73 @@ use native.Mathlib.Omega.{arith}
 use Rattle.text_line.proofs.line.line_value.Statement.{statement}
 use Rattle.text_line.proofs.line.line_value.Tie as tie
 
-slice-aggregate-result : tie.Need-slice-aggregate-result
+slice-aggregate-result : tie.Need-slice_bounds-result-end
 slice-aggregate-result c = omega arith
 
-returns : tie.Need-returns
+returns : tie.Need-returns-then-text-at
 returns c =
-    let a = c.before.before.before.before.args in
-    value_none a.key.now a.text.now a.at (a.at + line_length (drop a.at a.text.now)) refl (omega (arith, c.before.if1.true))
+    let a = c.args in
+    value_none a.key.now a.text.now a.at (a.at + line_length (drop a.at a.text.now)) refl (omega (arith, c.if-text-at.true))
 
-sub-begins-with : tie.Need-overflow-sub-begins-with
+sub-begins-with : tie.Need-slice_bounds-begins_with-count
 sub-begins-with c = omega arith
 
-part-begins-with-start : tie.Need-slice-bounds-begins-with-start
+part-begins-with-start : tie.Need-slice_bounds-begins_with-start
 part-begins-with-start c = omega arith
 
-part-begins-with-end : tie.Need-slice-bounds-begins-with-end
+part-begins-with-end : tie.Need-slice_bounds-begins_with-end
 part-begins-with-end c = omega arith
 
-begins-with-requires : tie.Need-begins-with-requires
+begins-with-requires : tie.Need-begins_with-requires
 begins-with-requires c κs = tt
 
-add_start : tie.Need-overflow-add-start
+add_start : tie.Need-overflow_add-start
 add_start c = omega arith
 
-line-end-requires : tie.Need-line-end-requires
+line-end-requires : tie.Need-line_end-end-requires
 line-end-requires c κs =
-    let a = c.before.before.before.before.before.before.args in
-    key_within a.key.now a.text.now a.at (key_in_rest a.key.now a.text.now a.at c.before.begins-with.ensures c.if2.true) (omega arith)
+    let a = c.args in
+    key_within a.key.now a.text.now a.at (key_in_rest a.key.now a.text.now a.at c.begins_with.ensures c.if-begins_with.true) (omega arith)
 
-sub-result : tie.Need-overflow-sub-result
-sub-result c = omega (arith, c.before.line-end.ensures)
+sub-result : tie.Need-slice_bounds-result-count
+sub-result c = omega (arith, c.line_end-end.ensures)
 
-part-result-start : tie.Need-slice-bounds-result-start
-part-result-start c = omega (arith, c.before.line-end.ensures)
+part-result-start : tie.Need-slice_bounds-result-start
+part-result-start c = omega (arith, c.line_end-end.ensures)
 
-part-result-end : tie.Need-slice-bounds-result-end
+part-result-end : tie.Need-slice_bounds-result-end-then-end-text
 part-result-end c = omega arith
 
-returns-2 : tie.Need-returns-2
+returns-2 : tie.Need-returns-then-end-text
 returns-2 c =
-    let t = c.before.before.before in
-    let a = t.before.before.before.before.before.before.args in
-    let b = key_in_rest a.key.now a.text.now a.at t.before.begins-with.ensures t.if2.true in
-    let l = c.before.before.line-end in
-    value-bytes a.key.now a.text.now a.at l.result (ends_after a.key.now a.text.now a.at b l.result l.ensures) (omega (arith, c.before.if3.true)) b
+    let t = c in
+    let a = t.args in
+    let b = key_in_rest a.key.now a.text.now a.at t.begins_with.ensures t.if-begins_with.true in
+    let l = c.line_end-end in
+    value-bytes a.key.now a.text.now a.at l.result (ends_after a.key.now a.text.now a.at b l.result l.ensures) (omega (arith, c.if-end-text.true)) b
 
-slice-aggregate-result-2 : tie.Need-slice-aggregate-result-2
+slice-aggregate-result-2 : tie.Need-slice_bounds-result-end-then-begins_with
 slice-aggregate-result-2 c = omega arith
 
-returns-3 : tie.Need-returns-3
+returns-3 : tie.Need-returns-then-begins_with
 returns-3 c =
-    let t = c.before.before.before in
-    let a = t.before.before.before.before.before.before.args in
-    let b = key_in_rest a.key.now a.text.now a.at t.before.begins-with.ensures t.if2.true in
-    let l = c.before.before.line-end in
-    value_none a.key.now a.text.now a.at l.result (ends_after a.key.now a.text.now a.at b l.result l.ensures) (omega (arith, c.before.if3.false))
+    let t = c in
+    let a = t.args in
+    let b = key_in_rest a.key.now a.text.now a.at t.begins_with.ensures t.if-begins_with.true in
+    let l = c.line_end-end in
+    value_none a.key.now a.text.now a.at l.result (ends_after a.key.now a.text.now a.at b l.result l.ensures) (omega (arith, c.if-end-text.false))
 
-slice-aggregate-result-3 : tie.Need-slice-aggregate-result-3
+slice-aggregate-result-3 : tie.Need-slice_bounds-result-end-2
 slice-aggregate-result-3 c = omega arith
 
-returns-4 : tie.Need-returns-4
+returns-4 : tie.Need-returns
 returns-4 c =
-    let e = c.before in
-    let a = e.before.before.before.before.before.before.args in
-    value_other a.key.now a.text.now a.at (key_in_rest a.key.now a.text.now a.at e.before.begins-with.ensures e.if2.false)
+    let e = c in
+    let a = e.args in
+    value_other a.key.now a.text.now a.at (key_in_rest a.key.now a.text.now a.at e.begins_with.ensures e.if-begins_with.false)
 
-pub line-value-spec : {M : Type 1} → statement M
-line-value-spec =
+pub line_value_spec : {M : Type 1} → statement M
+line_value_spec =
     tie.close
     (tie.spec
     slice-aggregate-result

@@ -4,44 +4,44 @@ use borrow.Author.Rules.{rules}
 use Rattle.text_line.proofs.piece.part.Statement.{statement}
 use Rattle.text_line.proofs.piece.part.Tie as tie
 
-slice-aggregate-result : tie.Need-slice-aggregate-result
+slice-aggregate-result : tie.Need-slice_bounds-result-end
 slice-aggregate-result c = search rules
 
-returns : tie.Need-returns
-returns c = let a = c.before.before.args in part_past a.text.now a.start a.end c.before.if1.true
+returns : tie.Need-returns-then-text-start
+returns c = let a = c.args in part_past a.text.now a.start a.end c.if-text-start.true
 
-slice-aggregate-result-2 : tie.Need-slice-aggregate-result-2
+slice-aggregate-result-2 : tie.Need-slice_bounds-result-end-then-end-start
 slice-aggregate-result-2 c = search rules
 
-returns-2 : tie.Need-returns-2
-returns-2 c = let a = c.before.before.before.args in part_none a.text.now a.start a.end c.before.if2.true
+returns-2 : tie.Need-returns-then-end-start
+returns-2 c = let a = c.args in part_none a.text.now a.start a.end c.if-end-start.true
 
-sub-result : tie.Need-overflow-sub-result
+sub-result : tie.Need-slice_bounds-result-count
 sub-result c = search rules
 
-part-result-start : tie.Need-slice-bounds-result-start
+part-result-start : tie.Need-slice_bounds-result-start
 part-result-start c = search rules
 
-part-result-end : tie.Need-slice-bounds-result-end
+part-result-end : tie.Need-slice_bounds-result-end-then-text-end
 part-result-end c = search rules
 
-returns-3 : tie.Need-returns-3
-returns-3 c = let a = c.before.before.before.before.args in part_rest a.text.now a.start a.end c.before.if3.true
+returns-3 : tie.Need-returns-then-text-end
+returns-3 c = let a = c.args in part_rest a.text.now a.start a.end c.if-text-end.true
 
-sub-result-2 : tie.Need-overflow-sub-result-2
+sub-result-2 : tie.Need-slice_bounds-result-count-2
 sub-result-2 c = search rules
 
-part-result-start-2 : tie.Need-slice-bounds-result-start-2
+part-result-start-2 : tie.Need-slice_bounds-result-start-2
 part-result-start-2 c = search rules
 
-part-result-end-2 : tie.Need-slice-bounds-result-end-2
+part-result-end-2 : tie.Need-slice_bounds-result-end-2
 part-result-end-2 c = search rules
 
-returns-4 : tie.Need-returns-4
+returns-4 : tie.Need-returns
 returns-4 c = search rules
 
-pub part-spec : {M : Type 1} → statement M
-part-spec =
+pub part_spec : {M : Type 1} → statement M
+part_spec =
     tie.close
     (tie.spec
     slice-aggregate-result

@@ -7,52 +7,52 @@ use Rattle.text_number.proofs.Marks.{marked_none, marked_suspect, marked_plain}
 use Rattle.text_number.proofs.marked.marked_of.Statement.{statement}
 use Rattle.text_number.proofs.marked.marked_of.Tie as tie
 
-returns : tie.Need-returns
-returns c = let a = c.before.before.args in marked_none a.low a.high a.value.now c.if1.true
+returns : tie.Need-returns-then-value-eq0
+returns c = let a = c.args in marked_none a.low a.high a.value.now c.if-value-eq0.true
 
-sub-if2 : tie.Need-overflow-sub-if2
+sub-if2 : tie.Need-overflow_sub-value
 sub-if2 c = omega arith
 
-shared-slice-read-if2 : tie.Need-shared-slice-read-if2
+shared-slice-read-if2 : tie.Need-bounds-value-value
 shared-slice-read-if2 c = omega arith
 
-sub_part : tie.Need-overflow-sub-part
+sub_part : tie.Need-overflow_sub-value-then-value-eq63
 sub_part c = omega arith
 
 part-requires : tie.Need-part-requires
 part-requires c κs = tt
 
-number-of-requires : tie.Need-number-of-requires
+number-of-requires : tie.Need-number_of-requires
 number-of-requires c κs = tt
 
-suspect-number-requires : tie.Need-suspect-number-requires
+suspect-number-requires : tie.Need-suspect_number-requires
 suspect-number-requires c κs = tt
 
-returns-2 : tie.Need-returns-2
+returns-2 : tie.Need-returns-then-value-eq63
 returns-2 c =
-    let tested = c.before.before.before.before in
-    let s = tested.before.before.before in
+    let tested = c in
+    let s = tested in
     let a = s.args in
-    c.suspect-number.ensures
-    ∙ rw (c.before.number_of_lem.ensures, to_z-of_z s.ranges.low, to_z-of_z s.ranges.high, c.before.before.part.ensures)
-    (marked_suspect a.low a.high a.value.now (eq-eqb _ 63 c.before.before.before.if2.true))
+    c.suspect_number.ensures
+    ∙ rw (c.number_of.ensures, to_z-of_z s.ranges.low, to_z-of_z s.ranges.high, c.part.ensures)
+    (marked_suspect a.low a.high a.value.now (eq-eqb _ 63 c.if-value-eq63.true))
 
-number-of-requires-2 : tie.Need-number-of-requires-2
+number-of-requires-2 : tie.Need-number_of-requires-2
 number-of-requires-2 c κs = tt
 
-plain-number-requires : tie.Need-plain-number-requires
+plain-number-requires : tie.Need-plain_number-requires
 plain-number-requires c κs = tt
 
-returns-3 : tie.Need-returns-3
+returns-3 : tie.Need-returns
 returns-3 c =
-    let s = c.before.before.before.before.before.before in
+    let s = c in
     let a = s.args in
-    c.plain-number.ensures
-    ∙ rw (c.before.number-of2.ensures, to_z-of_z s.ranges.low, to_z-of_z s.ranges.high)
-    (marked_plain a.low a.high a.value.now (ne_eqb _ 63 c.before.before.if2.false))
+    c.plain_number.ensures
+    ∙ rw (c.number_of-2.ensures, to_z-of_z s.ranges.low, to_z-of_z s.ranges.high)
+    (marked_plain a.low a.high a.value.now (ne_eqb _ 63 c.if-value-eq63.false))
 
-pub marked-of-spec : {M : Type 1} → statement M
-marked-of-spec =
+pub marked_of_spec : {M : Type 1} → statement M
+marked_of_spec =
     tie.close
     (tie.spec
     returns

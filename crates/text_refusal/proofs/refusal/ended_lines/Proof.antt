@@ -10,39 +10,39 @@ use native.Mathlib.Omega.{arith}
 use Rattle.text_refusal.proofs.refusal.ended_lines.Statement.{statement}
 use Rattle.text_refusal.proofs.refusal.ended_lines.Tie as tie
 
-abbrev invariant-loop : tie.invariant-loop
+abbrev invariant-loop : tie.invariant-loop-i
 invariant-loop text at count₀ i₀ count i =
     (i ≤ length text) × (count ≤ i) × (count + ended_lines (at - i) (drop i text) ≡ ended_lines at text)
 
-abbrev decreases-loop : tie.decreases-loop
+abbrev decreases-loop : tie.decreases-loop-i
 decreases-loop text at count₀ i₀ count i = length text - i
 
-loop-holds : tie.Need-loop-init invariant-loop decreases-loop
+loop-holds : tie.Need-loop-i-init invariant-loop decreases-loop
 loop-holds c = (omega arith, omega arith, rw (sub-zero, zero-add))
 
-returns : tie.Need-returns invariant-loop decreases-loop
-returns c = let a = c.before.before.before.args in omega (arith, ended_here a.text.now a.at c.before.before.loop.i c.if1.true)
+returns : tie.Need-returns-then-at-i invariant-loop decreases-loop
+returns c = let a = c.before.before.before.args in omega (arith, ended_here a.text.now a.at c.before.before.loop-i.i c.if-at-i.true)
 
-shared-slice-read-if2 : tie.Need-shared-slice-read-if2 invariant-loop decreases-loop
+shared-slice-read-if2 : tie.Need-bounds-text-i invariant-loop decreases-loop
 shared-slice-read-if2 c = omega arith
 
-add-count : tie.Need-overflow-add-count invariant-loop decreases-loop
+add-count : tie.Need-overflow_add-count invariant-loop decreases-loop
 add-count c = omega arith
 
-add-i : tie.Need-overflow-add-i invariant-loop decreases-loop
+add-i : tie.Need-overflow_add-i invariant-loop decreases-loop
 add-i c = omega arith
 
-loop-less : tie.Need-loop-smaller invariant-loop decreases-loop
+loop-less : tie.Need-loop-i-smaller invariant-loop decreases-loop
 loop-less c = omega arith
 
-loop-again : tie.Need-loop-preserved invariant-loop decreases-loop
-loop-again c = let a = c.before.before.before.before.before.args in ⊎_elim (λ w. omega (arith, ended_one a.text.now a.at c.before.before.before.before.loop.i c.before.before.if1.false c.before.before.before.loop-test.true w.0.taken)) (λ w. omega (arith, ended_other a.text.now a.at c.before.before.before.before.loop.i c.before.before.if1.false c.before.before.before.loop-test.true w.0.left)) c.if2.branch
+loop-again : tie.Need-loop-i-preserved invariant-loop decreases-loop
+loop-again c = let a = c.before.before.before.before.before.args in ⊎_elim (λ w. omega (arith, ended_one a.text.now a.at c.before.before.before.before.loop-i.i c.before.before.if-at-i.false c.before.before.before.loop-i-test.true w.if-text-i-eq10.true)) (λ w. omega (arith, ended_other a.text.now a.at c.before.before.before.before.loop-i.i c.before.before.if-at-i.false c.before.before.before.loop-i-test.true w.if-text-i-eq10.false)) c.if-text-i-eq10.branch-raw
 
-returns-2 : tie.Need-returns-2 invariant-loop decreases-loop
-returns-2 c = let a = c.before.before.args in omega (arith, ended_over a.text.now a.at c.before.loop.i c.loop-test.false)
+returns-2 : tie.Need-returns invariant-loop decreases-loop
+returns-2 c = let a = c.before.before.args in omega (arith, ended_over a.text.now a.at c.before.loop-i.i c.loop-i-test.false)
 
-pub ended-lines-spec : {M : Type 1} → statement M
-ended-lines-spec =
+pub ended_lines_spec : {M : Type 1} → statement M
+ended_lines_spec =
     tie.close
     (tie.spec
     invariant-loop
