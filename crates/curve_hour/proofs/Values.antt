@@ -10,7 +10,7 @@ use borrow.Author.Rules.{sfits_of}
 
 module _ (z : ℤ) (fits : mag z < 2 ^ hbits w64) where
   pub held : to_z w64 (of_z w64 z) ≡ z
-  held = to_z-of_z (sfits_of fits)
+  held = to_z-of_z {w = w64} (sfits_of fits)
 
   -- its magnitude
   pub held_size : nat_abs (to_z w64 (of_z w64 z)) ≡ nat_abs z

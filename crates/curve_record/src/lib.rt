@@ -8,7 +8,7 @@ ghost use Rattle.std.specs.Prelude.{◌≡◌};
 ghost use Rattle.curve_record.specs.Record.{fresh};
 
 // The errors of one group: how many, their sum and the sum of their squares.
-#[derive(Drop)]
+#[derive(Clone, Copy)]
 pub struct Group {
     pub count: u64,
     pub sum: i64,

@@ -29,7 +29,7 @@ pub const LEAST_SPREAD: i64 = 1;
 pub const GREATEST_SPREAD: i64 = 20000000;
 
 // The mean and the spread of a group's reserve errors, in kW.
-#[derive(Drop)]
+#[derive(Clone, Copy)]
 pub struct Pair {
     pub mean: i64,
     pub spread: i64,

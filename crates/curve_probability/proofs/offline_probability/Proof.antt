@@ -12,66 +12,66 @@ use Rattle.curve_probability.proofs.ProbabilityOrder.{offline_low, offline_high,
 use Rattle.curve_probability.proofs.offline_probability.Statement.{statement}
 use Rattle.curve_probability.proofs.offline_probability.Tie as tie
 
-cast-x : tie.Need-overflow-cast-x
+cast-x : tie.Need-overflow_cast-x
 cast-x c = widens c.ranges.floor
 
-returns : tie.Need-returns
+returns : tie.Need-returns-then-reserve-x
 returns c =
-    let a = c.before.args in
-    let f = c.before.ranges in
-    let low = rw (to_z-of_z f.floor) at (at_most_taken a.reserve _ f.reserve (widens f.floor) c.if1.true) in
+    let a = c.args in
+    let f = c.ranges in
+    let low = rw (to_z-of_z f.floor) at (at_most_taken a.reserve _ f.reserve (widens f.floor) c.if-reserve-x.true) in
     sym (offline_low a.reserve a.floor a.mean a.spread low)
 
-returns-2 : tie.Need-returns-2
+returns-2 : tie.Need-returns-then-reserve-gt-FAR
 returns-2 c =
-    let a = c.before.before.args in
-    let f = c.before.before.ranges in
+    let a = c.args in
+    let f = c.ranges in
     sym (offline_far a.reserve a.floor a.mean a.spread (
-      less_taken (pos 1099511627776) a.reserve (sfits_lit tt) f.reserve c.if2.true,
+      less_taken (pos 1099511627776) a.reserve (sfits_lit tt) f.reserve c.if-reserve-gt-FAR.true,
       omega (arith, fits_abs f.floor),
       omega (arith, fits_abs f.mean),
       omega (arith, f.spread),
     ))
 
-cast-offline-numerator : tie.Need-overflow-cast-offline-numerator
-cast-offline-numerator c = widens c.before.before.ranges.mean
+cast-offline-numerator : tie.Need-overflow_cast-mean
+cast-offline-numerator c = widens c.ranges.mean
 
 -- above X
-high : (c : tie.Else1) → c.before.args.floor <ℤ c.before.args.reserve
+high : (c : tie.Else-reserve-x) → c.args.floor <ℤ c.args.reserve
 high c =
-    let s = c.before in
-    rw (to_z-of_z s.ranges.floor) at (at_most_left s.args.reserve _ s.ranges.reserve (widens s.ranges.floor) c.if1.false)
+    let s = c in
+    rw (to_z-of_z s.ranges.floor) at (at_most_left s.args.reserve _ s.ranges.reserve (widens s.ranges.floor) c.if-reserve-x.false)
 
-offline-numerator-requires : tie.Need-offline-numerator-requires
+offline-numerator-requires : tie.Need-offline_numerator-numerator-requires
 offline-numerator-requires c κs =
-    let s = c.before.before in
+    let s = c in
     let x : nat_abs s.args.floor ≤ 2147483648 = omega (arith, fits_abs s.ranges.floor) in
     let mean : nat_abs s.args.mean ≤ 2147483648 = omega (arith, fits_abs s.ranges.mean) in
-    let below = less_left (pos 1099511627776) s.args.reserve (sfits_lit tt) s.ranges.reserve c.if2.false in
-    rw (to_z-of_z s.ranges.reserve, widened s.ranges.floor, widened s.ranges.mean) (near s.args.reserve s.args.floor (high c.before) below x, x, mean)
+    let below = less_left (pos 1099511627776) s.args.reserve (sfits_lit tt) s.ranges.reserve c.if-reserve-gt-FAR.false in
+    rw (to_z-of_z s.ranges.reserve, widened s.ranges.floor, widened s.ranges.mean) (near s.args.reserve s.args.floor (high (c.before)) below x, x, mean)
 
 distribution-requires : tie.Need-distribution-requires
 distribution-requires c κs = tt
 
-sub-result : tie.Need-overflow-sub-result
+sub-result : tie.Need-overflow_sub-result
 sub-result c = rw c.distribution.ensures (normal-le _ _)
 
-returns-3 : tie.Need-returns-3
+returns-3 : tie.Need-returns
 returns-3 c =
-    let n = c.before.before in
-    let s = n.before.before in
+    let n = c in
+    let s = n in
     rw (
       c.distribution.ensures,
-      to_z-of_z (sfits_of c.before.offline-numerator.type-inv),
-      c.before.offline-numerator.ensures,
+      to_z-of_z (sfits_of c.offline_numerator-numerator.type_inv),
+      c.offline_numerator-numerator.ensures,
       to_z-of_z s.ranges.reserve,
       widened s.ranges.floor,
       widened s.ranges.mean,
     )
-    (sym (offline_high s.args.reserve s.args.floor s.args.mean s.args.spread (high n.before)))
+    (sym (offline_high s.args.reserve s.args.floor s.args.mean s.args.spread (high (c.before.before.before))))
 
-pub offline-probability-spec : {M : Type 1} → statement M
-offline-probability-spec =
+pub offline_probability_spec : {M : Type 1} → statement M
+offline_probability_spec =
     tie.close
     (tie.spec
     cast-x

@@ -4,19 +4,19 @@ use Rattle.integer.proofs.Difference.{view, to_ℕ, nat_abs_nat}
 use Rattle.curve_probability.proofs.online_numerator.Statement.{statement}
 use Rattle.curve_probability.proofs.online_numerator.Tie as tie
 
-sub-result : tie.Need-overflow-sub-result
+sub-result : tie.Need-overflow_sub-result
 sub-result c =
     let a = c.args in
     rw (to_z-of_z c.ranges.reserve, to_z-of_z c.ranges.floor, view a.reserve, view a.floor)
     (simp to_ℕ (omega (arith, nat_abs_nat a.reserve, nat_abs_nat a.floor)))
 
-mul-result : tie.Need-overflow-mul-result
+mul-result : tie.Need-overflow_mul-result
 mul-result c =
     let a = c.args in
     rw (to_z-of_z (sub-result c), to_z-of_z c.ranges.reserve, to_z-of_z c.ranges.floor, view a.reserve, view a.floor)
     (simp to_ℕ (omega (arith, nat_abs_nat a.reserve, nat_abs_nat a.floor)))
 
-sub-result-2 : tie.Need-overflow-sub-result-2
+sub-result-2 : tie.Need-overflow_sub-result-2
 sub-result-2 c =
     let a = c.args in
     rw (
@@ -31,7 +31,7 @@ sub-result-2 c =
     )
     (simp to_ℕ (omega (arith, nat_abs_nat a.reserve, nat_abs_nat a.floor, nat_abs_nat a.mean)))
 
-mul-result-2 : tie.Need-overflow-mul-result-2
+mul-result-2 : tie.Need-overflow_mul-result-2
 mul-result-2 c =
     let a = c.args in
     rw (
@@ -59,5 +59,5 @@ returns c =
       to_z-of_z c.ranges.mean,
     )
 
-pub online-numerator-spec : {M : Type 1} → statement M
-online-numerator-spec = tie.close (tie.spec sub-result mul-result sub-result-2 mul-result-2 returns)
+pub online_numerator_spec : {M : Type 1} → statement M
+online_numerator_spec = tie.close (tie.spec sub-result mul-result sub-result-2 mul-result-2 returns)

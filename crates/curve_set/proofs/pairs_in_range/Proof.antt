@@ -26,53 +26,53 @@ unfolding pairs_in_range
 end l i h = rw (drop_of_length-le l h)
 
 -- what is left to test decides
-abbrev invariant-loop : tie.invariant-loop
+abbrev invariant-loop : tie.invariant-loop-i
 invariant-loop curves i₀ i = (i ≤ 24) × (pairs_in_range curves.pairs ≡ pairs_in_range (drop i curves.pairs))
 
-abbrev decreases-loop : tie.decreases-loop
+abbrev decreases-loop : tie.decreases-loop-i
 decreases-loop curves i₀ i = 24 - i
 
-long : (c : tie.Start invariant-loop decreases-loop) → length c.args.t1.pairs ≡ 24
-long c = simp length-map at c.well-formed.0.1.1.1.1.0.1.0.1
+long : (c : tie.Start invariant-loop decreases-loop) → length c.args.curves.pairs ≡ 24
+long c = simp length-map at c.well_formed.0.1.1.1.1.0.1.0.1
 
-loop-holds : tie.Need-loop-init invariant-loop decreases-loop
+loop-holds : tie.Need-loop-i-init invariant-loop decreases-loop
 loop-holds c = (omega arith, refl)
 
-mul-pair : tie.Need-overflow-mul-pair invariant-loop decreases-loop
+mul-pair : tie.Need-offset_bounds-curves-i invariant-loop decreases-loop
 mul-pair c = omega arith
 
-element-copy-out-pair : tie.Need-element-copy-out-pair invariant-loop decreases-loop
+element-copy-out-pair : tie.Need-bounds-curves-i invariant-loop decreases-loop
 element-copy-out-pair c = omega arith
 
-pair-in-range-requires : tie.Need-pair-in-range-requires invariant-loop decreases-loop
+pair-in-range-requires : tie.Need-pair_in_range-requires invariant-loop decreases-loop
 pair-in-range-requires c κs = tt
 
 -- the pair at hand decides first
-here : (c : tie.In-loop invariant-loop decreases-loop) → let pairs = c.before.before.args.t1.pairs in let i = c.before.loop.i in
+here : (c : tie.In-loop-i invariant-loop decreases-loop) → let pairs = c.args.curves.pairs in let i = c.loop-i.i in
     pairs_in_range pairs ≡ pair_in_range (get_or pairs i none) && pairs_in_range (drop (i + 1) pairs)
 here c =
-    let within : c.before.loop.i < length c.before.before.args.t1.pairs = omega (arith, long c.before.before) in
-    c.before.loop.invariant.1 ∙ step c.before.before.args.t1.pairs c.before.loop.i within
+    let within : c.loop-i.i < length c.args.curves.pairs = omega (arith, long (c.before.before)) in
+    c.loop-i.invariant.1 ∙ step c.args.curves.pairs c.loop-i.i within
 
-returns : tie.Need-returns invariant-loop decreases-loop
-returns c = sym (here c.before.before.before ∙ rw (sym c.before.pair-in-range.ensures ∙ not-true c.before.pair-in-range.result c.if1.true))
+returns : tie.Need-returns-then-not-pair_in_range invariant-loop decreases-loop
+returns c = sym (here (c.before.before.before) ∙ rw (sym c.pair_in_range.ensures ∙ not-true c.pair_in_range.result c.if-not-pair_in_range.true-raw))
 
-add-i : tie.Need-overflow-add-i invariant-loop decreases-loop
+add-i : tie.Need-overflow_add-i invariant-loop decreases-loop
 add-i c = omega arith
 
-loop-less : tie.Need-loop-smaller invariant-loop decreases-loop
+loop-less : tie.Need-loop-i-smaller invariant-loop decreases-loop
 loop-less c = omega arith
 
-loop-again : tie.Need-loop-preserved invariant-loop decreases-loop
+loop-again : tie.Need-loop-i-preserved invariant-loop decreases-loop
 loop-again c =
-    (omega arith, here c.before.before.before ∙ rw (sym c.before.pair-in-range.ensures ∙ not-false c.before.pair-in-range.result c.if1.false))
+    (omega arith, here (c.before.before.before) ∙ rw (sym c.pair_in_range.ensures ∙ not-false c.pair_in_range.result c.if-not-pair_in_range.false-raw))
 
-returns-2 : tie.Need-returns-2 invariant-loop decreases-loop
+returns-2 : tie.Need-returns invariant-loop decreases-loop
 returns-2 c =
-    let at-end : length c.before.before.args.t1.pairs ≤ c.before.loop.i = omega (arith, long c.before.before) in
-    sym (c.before.loop.invariant.1 ∙ end c.before.before.args.t1.pairs c.before.loop.i at-end)
+    let at-end : length c.args.curves.pairs ≤ c.loop-i.i = omega (arith, long (c.before.before)) in
+    sym (c.loop-i.invariant.1 ∙ end c.args.curves.pairs c.loop-i.i at-end)
 
-pub pairs-in-range-spec : {M : Type 1} → statement M
-pairs-in-range-spec =
+pub pairs_in_range_spec : {M : Type 1} → statement M
+pairs_in_range_spec =
     tie.close
     (tie.spec invariant-loop decreases-loop loop-holds mul-pair element-copy-out-pair pair-in-range-requires returns add-i loop-less loop-again returns-2)

@@ -6,5 +6,5 @@ use Rattle.curve_set.proofs.refused_curves.Tie as tie
 returns : tie.Need-returns
 returns c = refl
 
-pub refused-curves-spec : {M : Type 1} → statement M
-refused-curves-spec = tie.close (tie.spec returns)
+pub refused_curves_spec : {M : Type 1} → statement M
+refused_curves_spec = tie.close (tie.spec returns)

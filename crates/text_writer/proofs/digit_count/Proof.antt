@@ -39,50 +39,50 @@ few-digits n h = go (leb 10 n) refl (leb 100 n) refl (leb 1000 n) refl
     go false x false y true z = absurd (omega (arith, leb-false 10 n x, leb-true 1000 n z))
     go true x false y true z = absurd (omega (arith, leb-false 100 n y, leb-true 1000 n z))
 
-abbrev invariant-loop : tie.invariant-loop
+abbrev invariant-loop : tie.invariant-loop-n
 invariant-loop n count₀ rest count = count + length (digits_of rest) ≡ length (digits_of n)
 
-abbrev decreases-loop : tie.decreases-loop
+abbrev decreases-loop : tie.decreases-loop-n
 decreases-loop n count₀ rest count = rest
 
-loop-holds : tie.Need-loop-init invariant-loop decreases-loop
+loop-holds : tie.Need-loop-n-init invariant-loop decreases-loop
 loop-holds c = omega arith
 
-add-count : tie.Need-overflow-add-count invariant-loop decreases-loop
-add-count c = omega (arith, count_bound c.before.before.args.n, four-more c.before.loop.n c.loop-test.true)
+add-count : tie.Need-overflow_add-count invariant-loop decreases-loop
+add-count c = omega (arith, count_bound c.args.n, four-more c.loop-n.n c.loop-n-test.true)
 
-loop-less : tie.Need-loop-smaller invariant-loop decreases-loop
+loop-less : tie.Need-loop-n-smaller invariant-loop decreases-loop
 loop-less c = omega arith
 
-loop-again : tie.Need-loop-preserved invariant-loop decreases-loop
-loop-again c = omega (arith, four-more c.before.loop.n c.loop-test.true)
+loop-again : tie.Need-loop-n-preserved invariant-loop decreases-loop
+loop-again c = omega (arith, four-more c.loop-n.n c.loop-n-test.true)
 
-add-result : tie.Need-overflow-add-result invariant-loop decreases-loop
-add-result c = omega (arith, few-digits c.before.loop.n (omega arith), count_bound c.before.before.args.n)
+add-result : tie.Need-overflow_add-result invariant-loop decreases-loop
+add-result c = omega (arith, few-digits c.loop-n.n (omega arith), count_bound c.args.n)
 
-cast-result : tie.Need-overflow-cast-result invariant-loop decreases-loop
+cast-result : tie.Need-overflow_cast-result invariant-loop decreases-loop
 cast-result c = tt
 
-add-result-2 : tie.Need-overflow-add-result-2 invariant-loop decreases-loop
-add-result-2 c = omega (arith, few-digits c.before.loop.n (omega arith), count_bound c.before.before.args.n)
+add-result-2 : tie.Need-overflow_add-result-2 invariant-loop decreases-loop
+add-result-2 c = omega (arith, few-digits c.loop-n.n (omega arith), count_bound c.args.n)
 
-cast-result-2 : tie.Need-overflow-cast-result-2 invariant-loop decreases-loop
+cast-result-2 : tie.Need-overflow_cast-result-2 invariant-loop decreases-loop
 cast-result-2 c = tt
 
-add-result-3 : tie.Need-overflow-add-result-3 invariant-loop decreases-loop
-add-result-3 c = omega (arith, few-digits c.before.loop.n (omega arith), count_bound c.before.before.args.n)
+add-result-3 : tie.Need-overflow_add-result-3 invariant-loop decreases-loop
+add-result-3 c = omega (arith, few-digits c.loop-n.n (omega arith), count_bound c.args.n)
 
-cast-result-3 : tie.Need-overflow-cast-result-3 invariant-loop decreases-loop
+cast-result-3 : tie.Need-overflow_cast-result-3 invariant-loop decreases-loop
 cast-result-3 c = tt
 
-add-result-4 : tie.Need-overflow-add-result-4 invariant-loop decreases-loop
-add-result-4 c = omega (arith, few-digits c.before.loop.n (omega arith), count_bound c.before.before.args.n)
+add-result-4 : tie.Need-overflow_add-result-4 invariant-loop decreases-loop
+add-result-4 c = omega (arith, few-digits c.loop-n.n (omega arith), count_bound c.args.n)
 
 returns : tie.Need-returns invariant-loop decreases-loop
-returns c = omega (arith, few-digits c.before.loop.n (omega arith))
+returns c = omega (arith, few-digits c.loop-n.n (omega arith))
 
-pub digit-count-spec : {M : Type 1} → statement M
-digit-count-spec =
+pub digit_count_spec : {M : Type 1} → statement M
+digit_count_spec =
     tie.close
     (tie.spec
     invariant-loop

@@ -20,30 +20,30 @@ use Rattle.text_writer.proofs.number_length.Tie as tie
 magnitude-requires : tie.Need-magnitude-requires
 magnitude-requires c κs = tt
 
-digit-count-requires : tie.Need-digit-count-requires
+digit-count-requires : tie.Need-digit_count-requires
 digit-count-requires c κs = tt
 
 -- whether the number is below zero
 abbrev negative : tie.Start → Bool
 negative s = lt_z (to_z w64 (of_z w64 s.args.z)) (pos 0)
 
-counted : (c : tie.After-digit-count) → c.digit-count.result + bool_byte (negative c.before.before) ≡ length (written_number c.before.before.args.z)
+counted : (c : tie.After-digit_count) → c.digit_count.result + bool_byte (negative (c.before.before)) ≡ length (written_number c.args.z)
 counted c =
-    let s = c.before.before in
+    let s = c in
     let z = s.args.z in
     let bits : to_z w64 (of_z w64 z) ≡ z = to_z-of_z s.ranges.z in
-    let digits : c.digit-count.result ≡ length (digits_of (nat_abs z)) = c.digit-count.ensures ∙ ap (λ (n : ℕ). length (digits_of n)) (c.before.magnitude.ensures ∙ ap nat_abs bits) in
-    omega (arith, digits, ap length (written_signed z (negative s) (ap (λ (x : ℤ). lt_z x (pos 0)) (sym bits))), length-append (sign_of (negative s)) (digits_of (nat_abs z)), sign_length (negative s))
+    let digits : c.digit_count.result ≡ length (digits_of (nat_abs z)) = c.digit_count.ensures ∙ ap (λ (n : ℕ). length (digits_of n)) (c.magnitude.ensures ∙ ap nat_abs bits) in
+    omega (arith, digits, ap length (written_signed z (negative (c.before.before)) (ap (λ (x : ℤ). lt_z x (pos 0)) (sym bits))), length-append (sign_of (negative (c.before.before))) (digits_of (nat_abs z)), sign_length (negative (c.before.before)))
 
-cast-result : tie.Need-overflow-cast-result
+cast-result : tie.Need-overflow_cast-result
 cast-result c = tt
 
-add-result : tie.Need-overflow-add-result
-add-result c = omega (arith, counted c, number_bound c.before.before.args.z, fits_abs c.before.before.ranges.z)
+add-result : tie.Need-overflow_add-result
+add-result c = omega (arith, counted c, number_bound c.args.z, fits_abs c.ranges.z)
 
 returns : tie.Need-returns
 returns c = counted c
 
-pub number-length-spec : {M : Type 1} → statement M
-number-length-spec =
+pub number_length_spec : {M : Type 1} → statement M
+number_length_spec =
     tie.close (tie.spec magnitude-requires digit-count-requires cast-result add-result returns)

@@ -5,47 +5,47 @@ use native.Mathlib.Omega.{arith}
 use Rattle.text_writer.proofs.put_digits.Statement.{statement}
 use Rattle.text_writer.proofs.put_digits.Tie as tie
 
-abbrev invariant-loop : tie.invariant-loop
+abbrev invariant-loop : tie.invariant-loop-first
 invariant-loop buffer₀ start end n first₀ buffer rest first = DigitsLeft buffer₀ start end n buffer rest first
 
-abbrev decreases-loop : tie.decreases-loop
+abbrev decreases-loop : tie.decreases-loop-first
 decreases-loop buffer₀ start end n first₀ buffer rest first = first
 
-loop-holds : tie.Need-loop-init invariant-loop decreases-loop
+loop-holds : tie.Need-loop-first-init invariant-loop decreases-loop
 loop-holds c = digits_start _ _ _ _ c.requires.0
 
-sub-first : tie.Need-overflow-sub-first invariant-loop decreases-loop
+sub-first : tie.Need-overflow_sub-first invariant-loop decreases-loop
 sub-first c = omega arith
 
-add-buffer : tie.Need-overflow-add-buffer invariant-loop decreases-loop
+add-buffer : tie.Need-overflow_add-buffer invariant-loop decreases-loop
 add-buffer c = omega arith
 
-cast-buffer : tie.Need-overflow-cast-buffer invariant-loop decreases-loop
+cast-buffer : tie.Need-overflow_cast-buffer invariant-loop decreases-loop
 cast-buffer c = omega arith
 
-slice-write-buffer : tie.Need-slice-write-buffer invariant-loop decreases-loop
-slice-write-buffer c = omega (arith, digits_fit c.before.loop.invariant c.before.before.requires.1, c.loop-test.true)
+slice-write-buffer : tie.Need-bounds-buffer-first invariant-loop decreases-loop
+slice-write-buffer c = omega (arith, digits_fit c.loop-first.invariant c.requires.1, c.loop-first-test.true)
 
-same_length : tie.Need-same-length invariant-loop decreases-loop
-same_length c = simp length-set c.before.before.loop.invariant.long
+same_length : tie.Need-shape_of-buffer-then-n-eq0 invariant-loop decreases-loop
+same_length c = simp length-set c.loop-first.invariant.long
 
-returns : tie.Need-returns invariant-loop decreases-loop
-returns c = digits_end c.before.before.loop.invariant c.before.before.before.requires.1 c.before.loop-test.true c.if1.true
+returns : tie.Need-returns-then-n-eq0 invariant-loop decreases-loop
+returns c = digits_end c.loop-first.invariant c.requires.1 c.loop-first-test.true c.if-n-eq0.true
 
-loop-less : tie.Need-loop-smaller invariant-loop decreases-loop
+loop-less : tie.Need-loop-first-smaller invariant-loop decreases-loop
 loop-less c = omega arith
 
-loop-again : tie.Need-loop-preserved invariant-loop decreases-loop
-loop-again c = digits_left c.before.before.loop.invariant c.before.before.before.requires.1 c.before.loop-test.true (omega arith)
+loop-again : tie.Need-loop-first-preserved invariant-loop decreases-loop
+loop-again c = digits_left c.loop-first.invariant c.requires.1 c.loop-first-test.true (omega arith)
 
-same-length-2 : tie.Need-same-length-2 invariant-loop decreases-loop
-same-length-2 c = c.before.loop.invariant.long
+same-length-2 : tie.Need-shape_of-buffer invariant-loop decreases-loop
+same-length-2 c = c.loop-first.invariant.long
 
-returns-2 : tie.Need-returns-2 invariant-loop decreases-loop
-returns-2 c = digits_cut c.before.loop.invariant c.before.before.requires.1 c.loop-test.false
+returns-2 : tie.Need-returns invariant-loop decreases-loop
+returns-2 c = digits_cut c.loop-first.invariant c.requires.1 c.loop-first-test.false
 
-pub put-digits-spec : {M : Type 1} → statement M
-put-digits-spec =
+pub put_digits_spec : {M : Type 1} → statement M
+put_digits_spec =
     tie.close
     (tie.spec
     invariant-loop

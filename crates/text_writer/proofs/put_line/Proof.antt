@@ -12,24 +12,24 @@ use Rattle.text_writer.proofs.put_line.Tie as tie
 fits : (c : tie.Start) → c.args.at + (length c.args.key.now + length (signed_value c.args.negative c.args.n)) ≤ length c.args.buffer.now
 fits c = omega (arith, c.requires, length-append c.args.key.now (signed_value c.args.negative c.args.n))
 
-put-bytes-requires : tie.Need-put-bytes-requires
-put-bytes-requires c κs = omega (arith, fits c.before.before.before)
+put-bytes-requires : tie.Need-put_bytes-start-requires
+put-bytes-requires c κs = omega (arith, fits (c.before.before.before))
 
-put-value-requires : tie.Need-put-value-requires
+put-value-requires : tie.Need-put_value-requires
 put-value-requires c κs =
-    let key = c.before.before.before in
-    omega (arith, fits key.before.before.before.before, key.put-bytes.ensures.ends, key.put-bytes.auto.0)
+    let key = c in
+    omega (arith, fits (c.before.before.before.before.before.before.before), key.put_bytes-start.ensures.ends, key.put_bytes-start.auto.buffer)
 
-same_length : tie.Need-same-length
+same_length : tie.Need-shape_of-buffer
 same_length c =
-    let value = c.before.before in
-    value.put-value.auto.0 ∙ value.before.before.before.before.put-bytes.auto.0
+    let value = c in
+    value.put_value.auto.buffer ∙ value.put_bytes-start.auto.buffer
 
 returns : tie.Need-returns
 returns c =
-    let value = c.before.before in
-    let key = value.before.before.before.before in
-    laid_both key.put-bytes.ensures value.put-value.ensures (omega (arith, fits key.before.before.before.before))
+    let value = c in
+    let key = value in
+    laid_both key.put_bytes-start.ensures value.put_value.ensures (omega (arith, fits (c.before.before.before.before.before.before.before.before.before.before)))
 
-pub put-line-spec : {M : Type 1} → statement M
-put-line-spec = tie.close (tie.spec put-bytes-requires put-value-requires same_length returns)
+pub put_line_spec : {M : Type 1} → statement M
+put_line_spec = tie.close (tie.spec put-bytes-requires put-value-requires same_length returns)

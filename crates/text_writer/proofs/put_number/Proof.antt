@@ -8,49 +8,49 @@ use Rattle.text_writer.proofs.Writing.{sign_cut, sign_laid}
 use Rattle.text_writer.proofs.put_number.Statement.{statement}
 use Rattle.text_writer.proofs.put_number.Tie as tie
 
-put-digits-requires : tie.Need-put-digits-requires
-put-digits-requires c κs = c.before.before.requires
+put-digits-requires : tie.Need-put_digits-first-requires
+put-digits-requires c κs = c.requires
 
-same_length : tie.Need-same-length
-same_length c = c.before.before.before.put-digits.auto.0
+same_length : tie.Need-shape_of-buffer-then-not-negative
+same_length c = c.put_digits-first.auto.buffer
 
-returns : tie.Need-returns
-returns c = rw (not-true c.before.before.before.before.before.before.args.negative c.if1.true) c.before.before.before.put-digits.ensures
+returns : tie.Need-returns-then-not-negative
+returns c = rw (not-true c.args.negative c.if-not-negative.true-raw) c.put_digits-first.ensures
 
-below : (c : tie.Else1) → c.before.before.before.before.before.before.args.negative ≡ true
-below c = not-false c.before.before.before.before.before.before.args.negative c.if1.false
+below : (c : tie.Else-not-negative) → c.args.negative ≡ true
+below c = not-false c.args.negative c.if-not-negative.false-raw
 
-same-length-2 : tie.Need-same-length-2
-same-length-2 c = c.before.before.before.before.put-digits.auto.0
+same-length-2 : tie.Need-shape_of-buffer-then-first-start
+same-length-2 c = c.put_digits-first.auto.buffer
 
-returns-2 : tie.Need-returns-2
+returns-2 : tie.Need-returns-then-first-start
 returns-2 c =
-    let d = c.before.before.before.before in
-    let s = d.before.before.before in
-    rw (below c.before) (sign_cut s.args.n d.put-digits.ensures s.requires.0 c.if2.true)
+    let d = c in
+    let s = d in
+    rw (below (c.before)) (sign_cut s.args.n d.put_digits-first.ensures s.requires.0 c.if-first-start.true)
 
-sub-buffer : tie.Need-overflow-sub-buffer
+sub-buffer : tie.Need-overflow_sub-buffer
 sub-buffer c = omega arith
 
-slice-write-buffer : tie.Need-slice-write-buffer
+slice-write-buffer : tie.Need-bounds-buffer-first
 slice-write-buffer c =
-    let d = c.before.before.before.before in
-    omega (arith, c.if2.false, d.put-digits.ensures.ends, d.put-digits.auto.0, d.before.before.before.requires.1)
+    let d = c in
+    omega (arith, c.if-first-start.false, d.put_digits-first.ensures.ends, d.put_digits-first.auto.buffer, d.requires.1)
 
-sub-result : tie.Need-overflow-sub-result
+sub-result : tie.Need-overflow_sub-result
 sub-result c = omega arith
 
-same-length-3 : tie.Need-same-length-3
-same-length-3 c = simp length-set c.before.before.before.before.put-digits.auto.0
+same-length-3 : tie.Need-shape_of-buffer
+same-length-3 c = simp length-set c.put_digits-first.auto.buffer
 
-returns-3 : tie.Need-returns-3
+returns-3 : tie.Need-returns
 returns-3 c =
-    let d = c.before.before.before.before in
-    let s = d.before.before.before in
-    rw (below c.before) (sign_laid s.args.n d.put-digits.ensures s.requires.0 c.if2.false s.requires.1)
+    let d = c in
+    let s = d in
+    rw (below (c.before)) (sign_laid s.args.n d.put_digits-first.ensures s.requires.0 c.if-first-start.false s.requires.1)
 
-pub put-number-spec : {M : Type 1} → statement M
-put-number-spec =
+pub put_number_spec : {M : Type 1} → statement M
+put_number_spec =
     tie.close
     (tie.spec
     put-digits-requires

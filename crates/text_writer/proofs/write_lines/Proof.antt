@@ -18,45 +18,45 @@ text s = written_numbers (keys_of s.args.keys.now) s.args.values.now
 abbrev room : tie.Start → ℕ
 room s = length s.args.buffer.now - s.args.at
 
-returns : tie.Need-returns
-returns c = text_short (text c.before.before.before) c.before.before.before.args.buffer.now c.before.before.before.args.at (omega arith)
+returns : tie.Need-returns-then-buffer-at
+returns c = text_short (text (c.before.before.before)) c.args.buffer.now c.args.at (omega arith)
 
-sub-lines-fit : tie.Need-overflow-sub-lines-fit
+sub-lines-fit : tie.Need-overflow_sub-buffer
 sub-lines-fit c = omega arith
 
-lines-fit-requires : tie.Need-lines-fit-requires
+lines-fit-requires : tie.Need-lines_fit-requires
 lines-fit-requires c κs = tt
 
-fits : (c : tie.Then2) → length (text c.before.before.before.before.before) ≤ room c.before.before.before.before.before
+fits : (c : tie.Then-lines_fit) → length (text (c.before.before.before.before.before)) ≤ room (c.before.before.before.before.before)
 fits c =
-    let s = c.before.before.before.before.before in
-    leb-true (length (text s)) (room s) (sym c.before.lines_fit.ensures ∙ c.if2.true)
+    let s = c in
+    leb-true (length (text (c.before.before.before.before.before))) (room (c.before.before.before.before.before)) (sym c.lines_fit.ensures ∙ c.if-lines_fit.true)
 
-whole-keys-requires : tie.Need-whole-keys-requires
+whole-keys-requires : tie.Need-whole_keys-requires
 whole-keys-requires c κs = tt
 
-put-lines-requires : tie.Need-put-lines-requires
+put-lines-requires : tie.Need-put_lines-next-requires
 put-lines-requires c κs =
-    let t = c.before.before in
-    (c.whole-keys.ensures.1, rw c.whole-keys.ensures.0 (omega (arith, fits t, t.before.before.if1.false)))
+    let t = c in
+    (c.whole_keys.ensures.1, rw c.whole_keys.ensures.0 (omega (arith, fits (c.before.before), t.if-buffer-at.false)))
 
-same_length : tie.Need-same-length
-same_length c = c.before.before.put-lines.auto.0
+same_length : tie.Need-shape_of-buffer-then-lines_fit
+same_length c = c.put_lines-next.auto.buffer
 
-returns-2 : tie.Need-returns-2
+returns-2 : tie.Need-returns-then-lines_fit
 returns-2 c =
-    let p = c.before.before in
-    let t = p.before.before.before in
-    text_stands (rw p.before.whole-keys.ensures.0 at p.put-lines.ensures) (omega (arith, fits t, t.before.before.if1.false))
+    let p = c in
+    let t = p in
+    text_stands (rw p.whole_keys.ensures.0 at p.put_lines-next.ensures) (omega (arith, fits (c.before.before.before.before.before), t.if-buffer-at.false))
 
-returns-3 : tie.Need-returns-3
+returns-3 : tie.Need-returns
 returns-3 c =
-    let s = c.before.before.before.before.before in
-    let beyond = leb-false (length (text s)) (room s) (sym c.before.lines_fit.ensures ∙ c.if2.false) in
-    text_short (text s) s.args.buffer.now s.args.at (omega arith)
+    let s = c in
+    let beyond = leb-false (length (text (c.before.before.before.before.before))) (room (c.before.before.before.before.before)) (sym c.lines_fit.ensures ∙ c.if-lines_fit.false) in
+    text_short (text (c.before.before.before.before.before)) s.args.buffer.now s.args.at (omega arith)
 
-pub write-lines-spec : {M : Type 1} → statement M
-write-lines-spec =
+pub write_lines_spec : {M : Type 1} → statement M
+write_lines_spec =
     tie.close
     (tie.spec
     returns

@@ -4,40 +4,40 @@ use Rattle.curve_hour.proofs.Values.{held}
 use Rattle.curve_hour.proofs.read.error_of.Statement.{statement}
 use Rattle.curve_hour.proofs.read.error_of.Tie as tie
 
-magnitude-at-requires : tie.Need-magnitude-at-requires
+magnitude-at-requires : tie.Need-magnitude_at-requires
 magnitude-at-requires c κs = omega (arith, c.requires.0)
 
-magnitude-at-requires-2 : tie.Need-magnitude-at-requires-2
-magnitude-at-requires-2 c κs = omega (arith, c.before.requires.0)
+magnitude-at-requires-2 : tie.Need-magnitude_at-requires-2
+magnitude-at-requires-2 c κs = omega (arith, c.requires.0)
 
-group-of-requires : tie.Need-group-of-requires
+group-of-requires : tie.Need-group_of-requires
 group-of-requires c κs = tt
 
-floor-div-requires : tie.Need-floor-div-requires
+floor-div-requires : tie.Need-floor_div-requires
 floor-div-requires c κs = tt
 
-reserve-error-requires : tie.Need-reserve-error-requires
+reserve-error-requires : tie.Need-reserve_error-requires
 reserve-error-requires c κs =
-    let start = c.before.before.before.before in
-    rw (held c.floor-div.result c.floor-div.type-inv, c.floor-div.ensures, to_z-of_z start.ranges.sum) start.requires
+    let start = c in
+    rw (held c.floor_div.result c.floor_div.type_inv, c.floor_div.ensures, to_z-of_z start.ranges.sum) start.requires
 
 returns : tie.Need-returns
 returns c =
-    let mean = c.before.floor-div in
-    let group = c.before.before in
-    let start = group.before.before.before in
+    let mean = c.floor_div in
+    let group = c in
+    let start = group in
     rw (
-      held c.reserve-error.result c.reserve-error.type-inv,
-      c.reserve-error.ensures,
-      held mean.result mean.type-inv,
+      held c.reserve_error.result c.reserve_error.type_inv,
+      c.reserve_error.ensures,
+      held mean.result mean.type_inv,
       mean.ensures,
       to_z-of_z start.ranges.sum,
       group.Group-of.ensures,
-      group.before.magnitude-at2.ensures,
-      group.before.before.magnitude-at.ensures,
+      group.magnitude_at-2.ensures,
+      group.magnitude_at.ensures,
     )
 
-pub error-of-spec : {M : Type 1} → statement M
-error-of-spec =
+pub error_of_spec : {M : Type 1} → statement M
+error_of_spec =
     tie.close
     (tie.spec magnitude-at-requires magnitude-at-requires-2 group-of-requires floor-div-requires reserve-error-requires returns)

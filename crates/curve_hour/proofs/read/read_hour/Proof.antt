@@ -6,10 +6,10 @@ use Rattle.curve_hour.proofs.Hours.{hour_long, hour_refused, own_bounded, next_w
 use Rattle.curve_hour.proofs.read.read_hour.Statement.{statement}
 use Rattle.curve_hour.proofs.read.read_hour.Tie as tie
 
-returns : tie.Need-returns
-returns c = hour_long _ c.if1.true
+returns : tie.Need-returns-then-text-gt65536
+returns c = hour_long _ c.if-text-gt65536.true
 
-slice-aggregate-read-lines : tie.Need-slice-aggregate-read-lines
+slice-aggregate-read-lines : tie.Need-slice_bounds-read_lines-end-4
 slice-aggregate-read-lines c = refl
 
 slice-aggregate-read-lines-2 : tie.Need-slice-aggregate-read-lines-2
@@ -21,45 +21,45 @@ slice-aggregate-read-lines-3 c = refl
 slice-aggregate-read-lines-4 : tie.Need-slice-aggregate-read-lines-4
 slice-aggregate-read-lines-4 c = refl
 
-read-lines-requires : tie.Need-read-lines-requires
+read-lines-requires : tie.Need-read_lines-b-requires
 read-lines-requires c κs = tt
 
-enum-known-b : tie.Need-enum-known-b
-enum-known-b c = c.match.keys1
+enum-known-b : tie.Need-enum_known-b
+enum-known-b c = c.in-Refused-1.keys1
 
-refusal-of-requires : tie.Need-refusal-of-requires
+refusal-of-requires : tie.Need-refusal_of-requires
 refusal-of-requires c κs = tt
 
-enum-known-b-2 : tie.Need-enum-known-b-2
-enum-known-b-2 c = c.match.keys2
+enum-known-b-2 : tie.Need-enum_known-b-in-Read-1
+enum-known-b-2 c = c.in-Read-1.keys2
 
-slice-aggregate-runs-at : tie.Need-slice-aggregate-runs-at
+slice-aggregate-runs-at : tie.Need-slice_bounds-runs_at-end
 slice-aggregate-runs-at c = omega arith
 
-runs-at-requires : tie.Need-runs-at-requires
+runs-at-requires : tie.Need-runs_at-requires
 runs-at-requires c κs =
-    let known = c.before.before in
-    let read = known.before.before.before in
-    let short = read.before.before.before.before.before.if1.false in
-    let told = known.b2.given.1 in
-    let lines-read = read.read-lines.ensures in
+    let known = c in
+    let read = known in
+    let short = read.if-text-gt65536.false in
+    let told = known.in-Read.is in
+    let lines-read = read.read_lines-b.ensures in
     (short, next_within short lines-read _ told, omega arith, runs_few short lines-read _ told, own_bounded short lines-read _ told)
 
-returns-2 : tie.Need-returns-2
+returns-2 : tie.Need-returns-in-Refused
 returns-2 c =
-    let known = c.before.before in
-    let read = known.before.before.before in
-    rw c.refusal-of.ensures
-    (hour_refused read.before.before.before.before.before.if1.false read.read-lines.ensures _ known.b.given.1)
+    let known = c in
+    let read = known in
+    rw c.refusal_of.ensures
+    (hour_refused read.if-text-gt65536.false read.read_lines-b.ensures _ known.in-Refused.is)
 
-returns-3 : tie.Need-returns-3
+returns-3 : tie.Need-returns-in-Read
 returns-3 c =
-    let known = c.before.before.before in
-    let read = known.before.before.before in
-    c.runs-at.ensures ∙ runs_left read.before.before.before.before.before.if1.false read.read-lines.ensures _ known.b2.given.1
+    let known = c in
+    let read = known in
+    c.runs_at.ensures ∙ runs_left read.if-text-gt65536.false read.read_lines-b.ensures _ known.in-Read.is
 
-pub read-hour-spec : {M : Type 1} → statement M
-read-hour-spec =
+pub read_hour_spec : {M : Type 1} → statement M
+read_hour_spec =
     tie.close
     (tie.spec
     returns

@@ -17,27 +17,27 @@ use Rattle.curve_record.proofs.PossibleGroups.{GroupBounds, bounds_small, mean_b
 use Rattle.curve_record.proofs.possible.is_possible.Statement.{statement}
 use Rattle.curve_record.proofs.possible.is_possible.Tie as tie
 
-abbrev g1 : tie.Else1 → Group
-g1 c = c.before.before.args.g
+abbrev g1 : tie.Else-g-gt1000 → Group
+g1 c = c.args.g
 
-abbrev few : tie.After-is-within → tie.Else1
+abbrev few : tie.After-is_within-squares_within → tie.Else-g-gt1000
 few c = c.before.before.before.before.before.before
 
-abbrev g2 : tie.After-is-within → Group
+abbrev g2 : tie.After-is_within-squares_within → Group
 g2 c = g1 (few c)
 
-abbrev g3 : tie.After-floor-div → Group
-g3 c = g2 c.before.before.before.before.before
+abbrev g3 : tie.After-floor_div-mean → Group
+g3 c = g2 (c.before.before.before.before.before)
 
-returns : tie.Need-returns
+returns : tie.Need-returns-then-g-gt1000
 unfolding possible
-returns c = rw (lt-leb c.before.before.args.g.count 1000 c.if1.true)
+returns c = rw (lt-leb c.args.g.count 1000 c.if-g-gt1000.true)
 
 magnitude-requires : tie.Need-magnitude-requires
 magnitude-requires c κs = tt
 
-sum_fits : (c : tie.After-magnitude) → SFits w64 (g1 c.before.before).sum
-sum_fits c = sfits_of c.before.struct_told.given.1.0.1
+sum_fits : (c : tie.After-magnitude) → SFits w64 (g1 (c.before.before)).sum
+sum_fits c = sfits_of c.struct_told-1.given.1.0.1
 
 -- the bounds of a group of few hours fit
 module _ {n : ℕ} (few : n ≤ 1000) where
@@ -50,60 +50,60 @@ module _ {n : ℕ} (few : n ≤ 1000) where
   squares-high : SFits w64 (pos (n * 400000000000000))
   squares-high = omega (arith, abs_fits)
 
-mul-sum-within : tie.Need-overflow-mul-sum-within
-mul-sum-within c = sum_bound c.before.before.before.if1.false
+mul-sum-within : tie.Need-overflow_mul-sum_within
+mul-sum-within c = sum_bound c.if-g-gt1000.false
 
-mul-is-within : tie.Need-overflow-mul-is-within
-mul-is-within c = squares-bound c.before.before.before.before.if1.false
+mul-is-within : tie.Need-overflow_mul-g
+mul-is-within c = squares-bound c.if-g-gt1000.false
 
-cast-is-within : tie.Need-overflow-cast-is-within
-cast-is-within c = squares-high c.before.before.before.before.if1.false
+cast-is-within : tie.Need-overflow_cast-g
+cast-is-within c = squares-high c.if-g-gt1000.false
 
-is-within-requires : tie.Need-is-within-requires
+is-within-requires : tie.Need-is_within-squares_within-requires
 is-within-requires c κs = tt
 
-bounds-are : (c : tie.After-is-within) → let g = g2 c in
-    leb c.before.before.before.before.magnitude.result (g.count * 20000000) && c.is_Within.result ≡ bounded g
+bounds-are : (c : tie.After-is_within-squares_within) → let g = g2 c in
+    leb c.magnitude.result (g.count * 20000000) && c.is_within-squares_within.result ≡ bounded g
 bounds-are c =
     let g = g2 c in
-    let found = c.before.before.before.before in
-    let squares-fit : SFits w64 g.squares = sfits_of c.before.struct-told2.given.1.1.0.1 in
+    let found = c in
+    let squares-fit : SFits w64 g.squares = sfits_of c.struct_told-2-1.given.1.1.0.1 in
     ap₂ (λ (sum : ℕ) (squares : Bool). leb sum (g.count * 20000000) && squares)
-    (found.magnitude.ensures ∙ ap nat_abs (to_z-of_z (sum_fits found)))
-    (rw (to_z-of_z squares-fit, to_z-of_z (squares-high (few c).if1.false)) at c.is_Within.ensures)
+    (found.magnitude.ensures ∙ ap nat_abs (to_z-of_z (sum_fits (c.before.before.before.before))))
+    (rw (to_z-of_z squares-fit, to_z-of_z (squares-high (few c).if-g-gt1000.false)) at c.is_within-squares_within.ensures)
 
-returns-2 : tie.Need-returns-2
+returns-2 : tie.Need-returns-then-not-sum_within-squares_within
 returns-2 c =
-    let g = g2 c.before in
-    let out : bounded g ≡ false = sym (bounds-are c.before) ∙ not-true _ c.if2.true in
-    sym (few_possible g (few c.before).if1.false ∙ rw out)
+    let g = g2 (c.before) in
+    let out : bounded g ≡ false = sym (bounds-are (c.before)) ∙ not-true _ c.if-not-sum_within-squares_within.true-raw in
+    sym (few_possible g (few (c.before)).if-g-gt1000.false ∙ rw out)
 
-inside : (c : tie.Else2) → bounded (g2 c.before) ≡ true
-inside c = sym (bounds-are c.before) ∙ not-false _ c.if2.false
+inside : (c : tie.Else-not-sum_within-squares_within) → bounded (g2 (c.before)) ≡ true
+inside c = sym (bounds-are (c.before)) ∙ not-false _ c.if-not-sum_within-squares_within.false-raw
 
-bounds : (c : tie.Else2) → GroupBounds (g2 c.before)
-bounds c = bounded_small (g2 c.before) (few c.before).if1.false (inside c)
+bounds : (c : tie.Else-not-sum_within-squares_within) → GroupBounds (g2 (c.before))
+bounds c = bounded_small (g2 (c.before)) (few (c.before)).if-g-gt1000.false (inside c)
 
-returns-3 : tie.Need-returns-3
+returns-3 : tie.Need-returns-then-g-eq0
 returns-3 c =
-    let at = c.before.before in
-    let g = g2 at.before in
-    sym (few_possible g (few at.before).if1.false ∙ rw (inside at, eq-eqb g.count 0 c.if3.true))
+    let at = c in
+    let g = g2 (c.before.before.before) in
+    sym (few_possible g (few (c.before.before.before)).if-g-gt1000.false ∙ rw (inside (c.before.before), eq-eqb g.count 0 c.if-g-eq0.true))
 
-floor-div-requires : tie.Need-floor-div-requires
+floor-div-requires : tie.Need-floor_div-mean-requires
 floor-div-requires c κs = tt
 
-mean-fits : (c : tie.After-floor-div) → SFits w64 c.floor-div.result
-mean-fits c = sfits_of c.floor-div.type-inv
+mean-fits : (c : tie.After-floor_div-mean) → SFits w64 c.floor_div-mean.result
+mean-fits c = sfits_of c.floor_div-mean.type_inv
 
-mean-is : (c : tie.After-floor-div) → c.floor-div.result ≡ mean_of (g3 c)
+mean-is : (c : tie.After-floor_div-mean) → c.floor_div-mean.result ≡ mean_of (g3 c)
 unfolding mean_of
 mean-is c =
-    let sum : SFits w64 (g3 c).sum = sfits_of c.before.struct-told3.given.1.0.1 in
-    c.floor-div.ensures ∙ ap (λ (z : ℤ). floor_div z (g3 c).count) (to_z-of_z sum)
+    let sum : SFits w64 (g3 c).sum = sfits_of c.struct_told-3-1.given.1.0.1 in
+    c.floor_div-mean.ensures ∙ ap (λ (z : ℤ). floor_div z (g3 c).count) (to_z-of_z sum)
 
-mean-small : (c : tie.After-floor-div) → nat_abs c.floor-div.result ≤ 20000000
-mean-small c = rw (mean-is c) (mean_bound (g3 c) (bounds c.before.before.before.before))
+mean-small : (c : tie.After-floor_div-mean) → nat_abs c.floor_div-mean.result ≤ 20000000
+mean-small c = rw (mean-is c) (mean_bound (g3 c) (bounds (c.before.before.before.before)))
 
 -- the mean and the next number are near
 near : (z : ℤ) → nat_abs z ≤ 20000000 → nat_abs z ≤ 20000001
@@ -115,39 +115,39 @@ next-near z h = omega (arith, abs_add z (pos 1))
 next_fits : (z : ℤ) → nat_abs z ≤ 20000000 → SFits w64 (z +ℤ pos 1)
 next_fits z h = omega (arith, abs_fits, next-near z h)
 
-squares-around-requires : tie.Need-squares-around-requires
+squares-around-requires : tie.Need-squares_around-at_mean-requires
 squares-around-requires c κs =
-    (bounds_small (g3 c) (bounds c.before.before.before.before), rw (to_z-of_z (mean-fits c)) (near c.floor-div.result (mean-small c)))
+    (bounds_small (g3 c) (bounds (c.before.before.before.before)), rw (to_z-of_z (mean-fits c)) (near c.floor_div-mean.result (mean-small c)))
 
-add-squares-around : tie.Need-overflow-add-squares-around
-add-squares-around c = let found = c.before in rw (to_z-of_z (mean-fits found)) (next_fits found.floor-div.result (mean-small found))
+add-squares-around : tie.Need-overflow_add-mean
+add-squares-around c = let found = c in rw (to_z-of_z (mean-fits (c.before))) (next_fits found.floor_div-mean.result (mean-small (c.before)))
 
-squares-around-requires-2 : tie.Need-squares-around-requires-2
+squares-around-requires-2 : tie.Need-squares_around-next_to_mean-requires
 squares-around-requires-2 c κs =
-    let found = c.before in
-    let mean = found.floor-div.result in (
-      bounds_small (g3 found) (bounds found.before.before.before.before),
-      rw (to_z-of_z (mean-fits found), to_z-of_z (next_fits mean (mean-small found))) (next-near mean (mean-small found)),
+    let found = c in
+    let mean = found.floor_div-mean.result in (
+      bounds_small (g3 (c.before)) (bounds (c.before.before.before.before.before)),
+      rw (to_z-of_z (mean-fits (c.before)), to_z-of_z (next_fits mean (mean-small (c.before)))) (next-near mean (mean-small (c.before))),
     )
 
-left-tests : (c : tie.Else3) → let g = g2 c.before.before.before in possible g ≡ tests g
+left-tests : (c : tie.Else-g-eq0) → let g = g2 (c.before.before.before) in possible g ≡ tests g
 left-tests c =
-    let at = c.before.before in
-    let g = g2 at.before in
-    few_possible g (few at.before).if1.false ∙ rw (inside at, ne_eqb g.count 0 c.if3.false)
+    let at = c in
+    let g = g2 (c.before.before.before) in
+    few_possible g (few (c.before.before.before)).if-g-gt1000.false ∙ rw (inside (c.before.before), ne_eqb g.count 0 c.if-g-eq0.false)
 
-returns-4 : tie.Need-returns-4
+returns-4 : tie.Need-returns
 returns-4 c =
-    let found = c.before.before in
-    let mean = found.floor-div.result in
-    let here-fits : SFits w64 c.before.squares-around.result = sfits_of c.before.squares-around.type-inv in
-    let next-fit : SFits w64 c.squares-around2.result = sfits_of c.squares-around2.type-inv in
-    let here = rw (to_z-of_z (mean-fits found), mean-is found) at c.before.squares-around.ensures in
-    let next = rw (to_z-of_z (mean-fits found), to_z-of_z (next_fits mean (mean-small found)), mean-is found) at c.squares-around2.ensures in
-    ap₂ (λ (x y : ℤ). not_negative x && not_negative y) (to_z-of_z here-fits ∙ here) (to_z-of_z next-fit ∙ next) ∙ sym (left-tests found.before.before)
+    let found = c in
+    let mean = found.floor_div-mean.result in
+    let here-fits : SFits w64 c.squares_around-at_mean.result = sfits_of c.squares_around-at_mean.type_inv in
+    let next-fit : SFits w64 c.squares_around-next_to_mean.result = sfits_of c.squares_around-next_to_mean.type_inv in
+    let here = rw (to_z-of_z (mean-fits (c.before.before)), mean-is (c.before.before)) at c.squares_around-at_mean.ensures in
+    let next = rw (to_z-of_z (mean-fits (c.before.before)), to_z-of_z (next_fits mean (mean-small (c.before.before))), mean-is (c.before.before)) at c.squares_around-next_to_mean.ensures in
+    ap₂ (λ (x y : ℤ). not_negative x && not_negative y) (to_z-of_z here-fits ∙ here) (to_z-of_z next-fit ∙ next) ∙ sym (left-tests (c.before.before.before.before))
 
-pub is-possible-spec : {M : Type 1} → statement M
-is-possible-spec =
+pub is_possible_spec : {M : Type 1} → statement M
+is_possible_spec =
     tie.close
     (tie.spec
     returns

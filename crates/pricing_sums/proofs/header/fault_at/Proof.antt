@@ -9,45 +9,45 @@ use Rattle.pricing_sums.specs.Header.{low_at, high_at}
 use Rattle.pricing_sums.proofs.header.fault_at.Statement.{statement}
 use Rattle.pricing_sums.proofs.header.fault_at.Tie as tie
 
-mul-is-within : tie.Need-overflow-mul-is-within
+mul-is-within : tie.Need-offset_bounds-lows-place
 mul-is-within c = omega arith
 
-array-copy-out-is-within : tie.Need-array-copy-out-is-within
+array-copy-out-is-within : tie.Need-bounds-lows-place
 array-copy-out-is-within c = c.requires
 
-mul-is-within-2 : tie.Need-overflow-mul-is-within-2
+mul-is-within-2 : tie.Need-offset_bounds-highs-place
 mul-is-within-2 c = omega arith
 
-array-copy-out-is-within-2 : tie.Need-array-copy-out-is-within-2
-array-copy-out-is-within-2 c = c.before.requires
+array-copy-out-is-within-2 : tie.Need-bounds-highs-place
+array-copy-out-is-within-2 c = c.requires
 
-is-within-requires : tie.Need-is-within-requires
+is-within-requires : tie.Need-is_within-requires
 is-within-requires c κs = tt
 
-add-result : tie.Need-overflow-add-result
-add-result c = omega (arith, c.before.before.before.before.requires)
+add-result : tie.Need-overflow_add-result
+add-result c = omega (arith, c.requires)
 
 -- the test, by what stands at the place
-told : (c : tie.After-is-within) → let a = c.before.before.before.args in within (low_at a.place) (high_at a.place) a.z ≡ c.is_Within.result
+told : (c : tie.After-is_within) → let a = c.args in within (low_at a.place) (high_at a.place) a.z ≡ c.is_within.result
 told c =
-    let start = c.before.before.before in
+    let start = c in
     let place = start.args.place in
-    let says : c.is_Within.result ≡ within (to_z w64 (of_z w64 (low_at place))) (to_z w64 (of_z w64 (high_at place))) (to_z w64 (of_z w64 start.args.z)) =
-    c.is_Within.ensures in
+    let says : c.is_within.result ≡ within (to_z w64 (of_z w64 (low_at place))) (to_z w64 (of_z w64 (high_at place))) (to_z w64 (of_z w64 start.args.z)) =
+    c.is_within.ensures in
     rw (
-      to_z-of_z {w = w64} {z = low_at place} (sfits_of c.before.before.is-within-arg.given),
-      to_z-of_z {w = w64} {z = high_at place} (sfits_of c.before.is-within-arg2.given),
+      to_z-of_z {w = w64} {z = low_at place} (sfits_of c.is_within-arg-1.given),
+      to_z-of_z {w = w64} {z = high_at place} (sfits_of c.is_within-arg-2-1.given),
       to_z-of_z start.ranges.z,
     ) at (sym says)
 
-returns : tie.Need-returns
-returns c = rw (told c.before ∙ c.if1.true)
+returns : tie.Need-returns-then-is_within
+returns c = rw (told (c.before) ∙ c.if-is_within.true)
 
-returns-2 : tie.Need-returns-2
-returns-2 c = rw (told c.before ∙ c.if1.false)
+returns-2 : tie.Need-returns-else-is_within
+returns-2 c = rw (told (c.before) ∙ c.if-is_within.false)
 
-pub fault-at-spec : {M : Type 1} → statement M
-fault-at-spec =
+pub fault_at_spec : {M : Type 1} → statement M
+fault_at_spec =
     tie.close
     (tie.spec
     mul-is-within

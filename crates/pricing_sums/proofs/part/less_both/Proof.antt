@@ -15,19 +15,19 @@ two-fit {x} {y} f g = omega (arith, abs_fits, abs_sub x y, fits_abs f, fits_abs 
 three-fit : {x y z : ℤ} → SFits w32 x → SFits w32 y → SFits w32 z → SFits w64 (x -ℤ y -ℤ z)
 three-fit {x} {y} {z} f g h = omega (arith, abs_fits, abs_sub x y, abs_sub (x -ℤ y) z, fits_abs f, fits_abs g, fits_abs h)
 
-cast-result : tie.Need-overflow-cast-result
+cast-result : tie.Need-overflow_cast-result
 cast-result c = widens c.ranges.x
 
-cast-result-2 : tie.Need-overflow-cast-result-2
+cast-result-2 : tie.Need-overflow_cast-result-2
 cast-result-2 c = widens c.ranges.y
 
-sub-result : tie.Need-overflow-sub-result
+sub-result : tie.Need-overflow_sub-result
 sub-result c = let f = c.ranges in rw (widened f.x, widened f.y) (two-fit f.x f.y)
 
-cast-result-3 : tie.Need-overflow-cast-result-3
+cast-result-3 : tie.Need-overflow_cast-result-3
 cast-result-3 c = widens c.ranges.z
 
-sub-result-2 : tie.Need-overflow-sub-result-2
+sub-result-2 : tie.Need-overflow_sub-result-2
 sub-result-2 c =
     let f = c.ranges in
     rw (widened f.x, widened f.y, to_z-of_z (two-fit f.x f.y), widened f.z) (three-fit f.x f.y f.z)
@@ -39,5 +39,5 @@ returns c =
     rw (widened f.x, widened f.y, to_z-of_z (two-fit f.x f.y), widened f.z, to_z-of_z (three-fit f.x f.y f.z))
     (refl, omega (arith, abs_sub a.x a.y, abs_sub (a.x -ℤ a.y) a.z, fits_abs f.x, fits_abs f.y, fits_abs f.z))
 
-pub less-both-spec : {M : Type 1} → statement M
-less-both-spec = tie.close (tie.spec cast-result cast-result-2 sub-result cast-result-3 sub-result-2 returns)
+pub less_both_spec : {M : Type 1} → statement M
+less_both_spec = tie.close (tie.spec cast-result cast-result-2 sub-result cast-result-3 sub-result-2 returns)

@@ -12,50 +12,50 @@ use Rattle.pricing_sums.specs.Part.{part_of}
 use Rattle.pricing_sums.proofs.part.load_part.Statement.{statement}
 use Rattle.pricing_sums.proofs.part.load_part.Tie as tie
 
-less-both-requires : tie.Need-less-both-requires
+less-both-requires : tie.Need-less_both-requires
 less-both-requires c κs = tt
 
-rrs : (c : tie.After-struct-told4) → SFits w32 c.before.before.before.before.before.before.before.before.args.l.rrs
-rrs c = sfits_of c.struct-told4.given.1.1.1.0.1
+rrs : (c : tie.After-struct_told-then-l-eq1-3-1) → SFits w32 c.args.l.rrs
+rrs c = sfits_of c.struct_told-then-l-eq1-3-1.given.1.1.1.0.1
 
-cast-t4 : tie.Need-overflow-cast-t4
+cast-t4 : tie.Need-overflow_cast-result
 cast-t4 c = widens (rrs c)
 
 less_zero : (x : ℤ) → x -ℤ pos 0 ≡ x
 less_zero x = rw (view x) (simp to_ℕ (omega arith))
 
-returns : tie.Need-returns
+returns : tie.Need-returns-then-l-eq1
 unfolding part_of
 returns c =
-    let less = c.before.before in
-    let test = less.before.before.before in
-    let load = test.before.before.before.args.l in
-    let told = c.struct-told4.given in
+    let less = c in
+    let test = less in
+    let load = test.args.l in
+    let told = c.struct_told-then-l-eq1-3-1.given in
     rw (
-      to_z-of_z {w = w64} {z = less.less_both.result} (sfits_of less.less_both.type-inv),
+      to_z-of_z {w = w64} {z = less.less_both.result} (sfits_of less.less_both.type_inv),
       widened (rrs c),
       less.less_both.ensures.0,
       less_zero,
       to_z-of_z {w = w32} {z = load.net} (sfits_of told.1.0.1),
       to_z-of_z {w = w32} {z = load.lpc} (sfits_of told.1.1.0.1),
-      flag_set load.rrsok (sfits_of told.0.1) test.if1.true,
+      flag_set load.rrsok (sfits_of told.0.1) test.if-l-eq1.true,
     ) refl
 
-other-rrs : (c : tie.After-struct-told5) → SFits w32 c.before.before.before.before.before.args.l.rrs
-other-rrs c = sfits_of c.struct-told5.given.1.1.1.0.1
+other-rrs : (c : tie.After-struct_told-2-1) → SFits w32 c.args.l.rrs
+other-rrs c = sfits_of c.struct_told-2-1.given.1.1.1.0.1
 
-cast-t5 : tie.Need-overflow-cast-t5
+cast-t5 : tie.Need-overflow_cast-result-2
 cast-t5 c = widens (other-rrs c)
 
-returns-2 : tie.Need-returns-2
+returns-2 : tie.Need-returns
 unfolding part_of
 returns-2 c =
-    let test = c.before.before in
-    let load = test.before.before.before.args.l in
+    let test = c in
+    let load = test.args.l in
     rw (
       widened (other-rrs c),
-      flag_not_set load.rrsok test.if1.false,
+      flag_not_set load.rrsok test.if-l-eq1.false,
     ) refl
 
-pub load-part-spec : {M : Type 1} → statement M
-load-part-spec = tie.close (tie.spec less-both-requires cast-t4 returns cast-t5 returns-2)
+pub load_part_spec : {M : Type 1} → statement M
+load_part_spec = tie.close (tie.spec less-both-requires cast-t4 returns cast-t5 returns-2)

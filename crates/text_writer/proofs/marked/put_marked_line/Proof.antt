@@ -33,71 +33,67 @@ negative s = lt_z (to_z w64 (of_z w64 s.args.z)) (pos 0)
 line : (c : tie.After-magnitude) → signed_line (start c).args.key.now (negative (start c)) c.magnitude.result ≡ written_line (start c).args.key.now (start c).args.z
 line c =
     let s = start c in
-    let bits : to_z w64 (of_z w64 s.args.z) ≡ s.args.z = to_z-of_z s.fits.z in
-    ap (signed_line s.args.key.now (negative s)) (c.magnitude.ensures ∙ ap nat_abs bits)
-    ∙ sym (line_signed s.args.key.now s.args.z (negative s) (ap (λ (x : ℤ). lt_z x (pos 0)) (sym bits)))
+    let bits : to_z w64 (of_z w64 s.args.z) ≡ s.args.z = to_z-of_z s.ranges.z in
+    ap (signed_line s.args.key.now (negative (c.before.before.before.before))) (c.magnitude.ensures ∙ ap nat_abs bits)
+    ∙ sym (line_signed s.args.key.now s.args.z (negative (c.before.before.before.before)) (ap (λ (x : ℤ). lt_z x (pos 0)) (sym bits)))
 
-put-line-requires : tie.Need-put-line-requires
+put-line-requires : tie.Need-put_line-next-requires
 put-line-requires c κs = omega (arith, fits (start c), ap length (line c))
 
-laid : (c : tie.After-put-line) → let s = start c.before in TextLaid (written_line s.args.key.now s.args.z) s.args.buffer.now s.args.at c.put-line.new.0 c.put-line.result
-laid c = rw (line c.before) at c.put-line.ensures
+laid : (c : tie.After-put_line-next) → let s = start (c.before) in TextLaid (written_line s.args.key.now s.args.z) s.args.buffer.now s.args.at c.put_line-next.new.buffer c.put_line-next.result
+laid c = rw (line (c.before)) at c.put_line-next.ensures
 
 -- the line of the number has an end, and with a mark room for one byte more
-abbrev line_of : tie.Then1 → tie.After-put-line
+abbrev line_of : tie.Then-suspect → tie.After-put_line-next
 line_of c = c.before.before.before
 
-ended : (c : tie.After-put-line) → 1 ≤ c.put-line.result
-ended c = let s = start c.before in omega (arith, (laid c).ends, line_length s.args.key.now s.args.z)
+ended : (c : tie.After-put_line-next) → 1 ≤ c.put_line-next.result
+ended c = let s = start (c.before) in omega (arith, (laid c).ends, line_length s.args.key.now s.args.z)
 
-sub-put-bytes : tie.Need-overflow-sub-put-bytes
-sub-put-bytes c = omega (arith, ended (line_of c.before))
-
-slice-aggregate-put-bytes : tie.Need-slice-aggregate-put-bytes
-slice-aggregate-put-bytes c = search rules
+sub-put-bytes : tie.Need-overflow_sub-next
+sub-put-bytes c = omega (arith, ended (line_of (c.before)))
 
 one_more : {suspect : Bool} → suspect ≡ true → ◌≡◌ {A = ℕ} (cond suspect 1 0) 1
 one_more e = rw e
 
-room : (c : tie.Then1) → let s = start (line_of c).before in s.args.at + length (written_line s.args.key.now s.args.z) + 1 ≤ length s.args.buffer.now
-room c = omega (arith, fits (start (line_of c).before), one_more c.if1.true)
+room : (c : tie.Then-suspect) → let s = start (line_of c).before in s.args.at + length (written_line s.args.key.now s.args.z) + 1 ≤ length s.args.buffer.now
+room c = omega (arith, fits (start (line_of c).before), one_more c.if-suspect.true)
 
-put-bytes-requires : tie.Need-put-bytes-requires
+put-bytes-requires : tie.Need-put_bytes-requires
 put-bytes-requires c κs =
-    let t = c.before.before in
-    let p = line_of t in
-    omega (arith, room t, (laid p).ends, ended p, p.put-line.kept.0)
+    let t = c in
+    let p = line_of (c.before.before.before) in
+    omega (arith, room (c.before.before.before), (laid (c.before.before.before.before.before.before)).ends, ended (c.before.before.before.before.before.before), p.put_line-next.kept.0)
 
-same_length : tie.Need-same-length
+same_length : tie.Need-shape_of-buffer-then-suspect
 same_length c =
-    let b = c.before.before in
-    b.put-bytes.auto.0 ∙ (line_of b.before.before.before).put-line.auto.0
+    let b = c in
+    b.put_bytes.auto.buffer ∙ (line_of (c.before.before.before.before.before.before)).put_line-next.auto.0
 
-returns : tie.Need-returns
+returns : tie.Need-returns-then-suspect
 returns c =
-    let b = c.before.before in
-    let t = b.before.before.before in
-    let p = line_of t in
-    let s = start p.before in
-    rw t.if1.true (mark_laid s.args.key.now s.args.z (laid p) b.put-bytes.ensures (omega (arith, room t, marked_line_length s.args.key.now s.args.z true, line_length s.args.key.now s.args.z)))
+    let b = c in
+    let t = b in
+    let p = line_of (c.before.before.before.before.before.before) in
+    let s = start (c.before.before.before.before.before.before.before.before.before.before) in
+    rw t.if-suspect.true (mark_laid s.args.key.now s.args.z (laid (c.before.before.before.before.before.before.before.before.before)) b.put_bytes.ensures (omega (arith, room (c.before.before.before.before.before.before), marked_line_length s.args.key.now s.args.z true, line_length s.args.key.now s.args.z)))
 
-same-length-2 : tie.Need-same-length-2
-same-length-2 c = c.before.before.before.put-line.auto.0
+same-length-2 : tie.Need-shape_of-buffer
+same-length-2 c = c.put_line-next.auto.buffer
 
-returns-2 : tie.Need-returns-2
+returns-2 : tie.Need-returns
 returns-2 c =
-    let p = c.before.before.before in
-    let s = start p.before in
-    rw (c.if1.false, line_unmarked s.args.key.now s.args.z) (laid p)
+    let p = c in
+    let s = start (c.before.before.before.before) in
+    rw (c.if-suspect.false, line_unmarked s.args.key.now s.args.z) (laid (c.before.before.before))
 
-pub put-marked-line-spec : {M : Type 1} → statement M
-put-marked-line-spec =
+pub put_marked_line_spec : {M : Type 1} → statement M
+put_marked_line_spec =
     tie.close
     (tie.spec
     magnitude-requires
     put-line-requires
     sub-put-bytes
-    slice-aggregate-put-bytes
     put-bytes-requires
     same_length
     returns

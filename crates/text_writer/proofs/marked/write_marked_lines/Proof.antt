@@ -19,41 +19,41 @@ text s = written_marked_lines (keys_of s.args.keys.now) (marked_by s.args.marks 
 abbrev room : tie.Start → ℕ
 room s = length s.args.buffer.now - s.args.at
 
-returns : tie.Need-returns
-returns c = let s = c.before.before.before in text_short (text s) s.args.buffer.now s.args.at (omega arith)
+returns : tie.Need-returns-then-buffer-at
+returns c = let s = c in text_short (text (c.before.before.before)) s.args.buffer.now s.args.at (omega arith)
 
-sub-marked-lines-fit : tie.Need-overflow-sub-marked-lines-fit
+sub-marked-lines-fit : tie.Need-overflow_sub-buffer
 sub-marked-lines-fit c = omega arith
 
-marked-lines-fit-requires : tie.Need-marked-lines-fit-requires
+marked-lines-fit-requires : tie.Need-marked_lines_fit-requires
 marked-lines-fit-requires c κs = tt
 
-abbrev start : tie.After-marked-lines-fit → tie.Start
+abbrev start : tie.After-marked_lines_fit → tie.Start
 start c = c.before.before.before.before
 
-fits : (c : tie.Then2) → length (text (start c.before)) ≤ room (start c.before)
-fits c = let s = start c.before in leb-true (length (text s)) (room s) (sym c.before.marked-lines-fit.ensures ∙ c.if2.true)
+fits : (c : tie.Then-marked_lines_fit) → length (text (start (c.before))) ≤ room (start (c.before))
+fits c = let s = start (c.before) in leb-true (length (text (c.before.before.before.before.before))) (room (c.before.before.before.before.before)) (sym c.marked_lines_fit.ensures ∙ c.if-marked_lines_fit.true)
 
-put-marked-lines-requires : tie.Need-put-marked-lines-requires
-put-marked-lines-requires c κs = let t = c.before in omega (arith, fits t, t.before.before.if1.false)
+put-marked-lines-requires : tie.Need-put_marked_lines-next-requires
+put-marked-lines-requires c κs = let t = c in omega (arith, fits (c.before), t.if-buffer-at.false)
 
-same_length : tie.Need-same-length
-same_length c = c.before.before.put-marked-lines.auto.0
+same_length : tie.Need-shape_of-buffer-then-marked_lines_fit
+same_length c = c.put_marked_lines-next.auto.buffer
 
-returns-2 : tie.Need-returns-2
+returns-2 : tie.Need-returns-then-marked_lines_fit
 returns-2 c =
-    let p = c.before.before in
-    let t = p.before.before in
-    text_stands p.put-marked-lines.ensures (omega (arith, fits t, t.before.before.if1.false))
+    let p = c in
+    let t = p in
+    text_stands p.put_marked_lines-next.ensures (omega (arith, fits (c.before.before.before.before), t.if-buffer-at.false))
 
-returns-3 : tie.Need-returns-3
+returns-3 : tie.Need-returns
 returns-3 c =
-    let s = start c.before in
-    let beyond = leb-false (length (text s)) (room s) (sym c.before.marked-lines-fit.ensures ∙ c.if2.false) in
-    text_short (text s) s.args.buffer.now s.args.at (omega arith)
+    let s = start (c.before) in
+    let beyond = leb-false (length (text (c.before.before.before.before.before))) (room (c.before.before.before.before.before)) (sym c.marked_lines_fit.ensures ∙ c.if-marked_lines_fit.false) in
+    text_short (text (c.before.before.before.before.before)) s.args.buffer.now s.args.at (omega arith)
 
-pub write-marked-lines-spec : {M : Type 1} → statement M
-write-marked-lines-spec =
+pub write_marked_lines_spec : {M : Type 1} → statement M
+write_marked_lines_spec =
     tie.close
     (tie.spec
     returns

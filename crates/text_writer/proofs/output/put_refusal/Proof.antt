@@ -21,48 +21,39 @@ fits c =
     let three = bytes "text=" ++ (c.args.name.now ++ (10 ∷ [])) in
     omega (arith, c.requires, ap length (refusal-signed (record { number = c.args.number; line = c.args.line }) c.args.name.now), length-append one (two ++ three), length-append two three)
 
-slice-aggregate-put-line : tie.Need-slice-aggregate-put-line
-slice-aggregate-put-line c = search rules
+put-line-requires : tie.Need-put_line-second-requires
+put-line-requires c κs = omega (arith, fits (c.before.before.before.before.before))
 
-put-line-requires : tie.Need-put-line-requires
-put-line-requires c κs = omega (arith, fits c.before.before.before.before)
-
-slice-aggregate-put-line-2 : tie.Need-slice-aggregate-put-line-2
-slice-aggregate-put-line-2 c = search rules
-
-put-line-requires-2 : tie.Need-put-line-requires-2
+put-line-requires-2 : tie.Need-put_line-third-requires
 put-line-requires-2 c κs =
-    let one = c.before.before.before.before in
-    omega (arith, fits one.before.before.before.before.before, one.put-line.ensures.ends, one.put-line.auto.0)
+    let one = c in
+    omega (arith, fits (c.before.before.before.before.before.before.before.before.before.before.before), one.put_line-second.ensures.ends, one.put_line-second.auto.buffer)
 
-slice-aggregate-put-text-line : tie.Need-slice-aggregate-put-text-line
-slice-aggregate-put-text-line c = search rules
-
-put-text-line-requires : tie.Need-put-text-line-requires
+put-text-line-requires : tie.Need-put_text_line-requires
 put-text-line-requires c κs =
-    let two = c.before.before.before.before in
-    let one = two.before.before.before.before.before in
-    omega (arith, fits one.before.before.before.before.before, one.put-line.ensures.ends, one.put-line.auto.0, two.put-line2.ensures.ends, two.put-line2.auto.0)
+    let two = c in
+    let one = two in
+    omega (arith, fits (c.before.before.before.before.before.before.before.before.before.before.before.before.before.before.before.before.before), one.put_line-second.ensures.ends, one.put_line-second.auto.buffer, two.put_line-third.ensures.ends, two.put_line-third.auto.buffer)
 
-same_length : tie.Need-same-length
+same_length : tie.Need-shape_of-buffer
 same_length c =
-    let three = c.before.before in
-    let two = three.before.before.before.before.before in
-    let one = two.before.before.before.before.before in
-    three.put-text-line.auto.0 ∙ two.put-line2.auto.0 ∙ one.put-line.auto.0
+    let three = c in
+    let two = three in
+    let one = two in
+    three.put_text_line.auto.buffer ∙ two.put_line-third.auto.buffer ∙ one.put_line-second.auto.buffer
 
 returns : tie.Need-returns
 returns c =
-    let three = c.before.before in
-    let two = three.before.before.before.before.before in
-    let one = two.before.before.before.before.before in
-    let start = one.before.before.before.before.before in
+    let three = c in
+    let two = three in
+    let one = two in
+    let start = one in
     rw (refusal-signed (record { number = start.args.number; line = start.args.line }) start.args.name.now)
-    (laid_both one.put-line.ensures
-    (laid_both two.put-line2.ensures three.put-text-line.ensures (omega (arith, fits start, one.put-line.ensures.ends, one.put-line.auto.0)))
-    (omega (arith, fits start)))
+    (laid_both one.put_line-second.ensures
+    (laid_both two.put_line-third.ensures three.put_text_line.ensures (omega (arith, fits (c.before.before.before.before.before.before.before.before.before.before.before.before.before.before.before.before.before.before.before.before), one.put_line-second.ensures.ends, one.put_line-second.auto.buffer)))
+    (omega (arith, fits (c.before.before.before.before.before.before.before.before.before.before.before.before.before.before.before.before.before.before.before.before))))
 
-pub put-refusal-spec : {M : Type 1} → statement M
-put-refusal-spec =
+pub put_refusal_spec : {M : Type 1} → statement M
+put_refusal_spec =
     tie.close
-    (tie.spec slice-aggregate-put-line put-line-requires slice-aggregate-put-line-2 put-line-requires-2 slice-aggregate-put-text-line put-text-line-requires same_length returns)
+    (tie.spec put-line-requires put-line-requires-2 put-text-line-requires same_length returns)

@@ -11,53 +11,53 @@ use native.Mathlib.Omega.{arith}
 use Rattle.text_writer.proofs.row.put_spaces.Statement.{statement}
 use Rattle.text_writer.proofs.row.put_spaces.Tie as tie
 
-abbrev invariant-loop : tie.invariant-loop
+abbrev invariant-loop : tie.invariant-loop-i
 invariant-loop buffer₀ at count i₀ buffer i = (i ≤ count) × (buffer ≡ laid_at buffer₀ at (spaces i)) × (length buffer ≡ length buffer₀)
 
-abbrev decreases-loop : tie.decreases-loop
+abbrev decreases-loop : tie.decreases-loop-i
 decreases-loop buffer₀ at count i₀ buffer i = count - i
 
-loop-holds : tie.Need-loop-init invariant-loop decreases-loop
+loop-holds : tie.Need-loop-i-init invariant-loop decreases-loop
 loop-holds c = (omega arith, sym (laid_none c.args.buffer.now c.args.at), refl)
 
-add-buffer : tie.Need-overflow-add-buffer invariant-loop decreases-loop
+add-buffer : tie.Need-overflow_add-buffer invariant-loop decreases-loop
 add-buffer c = omega arith
 
-slice-write-buffer : tie.Need-slice-write-buffer invariant-loop decreases-loop
+slice-write-buffer : tie.Need-bounds-buffer-at invariant-loop decreases-loop
 slice-write-buffer c = omega arith
 
-add-i : tie.Need-overflow-add-i invariant-loop decreases-loop
+add-i : tie.Need-overflow_add-i invariant-loop decreases-loop
 add-i c = omega arith
 
-loop-less : tie.Need-loop-smaller invariant-loop decreases-loop
+loop-less : tie.Need-loop-i-smaller invariant-loop decreases-loop
 loop-less c = omega arith
 
-loop-again : tie.Need-loop-preserved invariant-loop decreases-loop
+loop-again : tie.Need-loop-i-preserved invariant-loop decreases-loop
 loop-again c =
-    let a = c.before.before.args in
-    let l = c.before.loop in (
+    let a = c.args in
+    let l = c.loop-i in (
       omega arith,
-      ap (λ (bytes : List ℕ). set bytes (a.at + l.i) 32) l.invariant.1 ∙ spaces_next a.buffer.now a.at l.i (omega (arith, c.loop-test.true, c.before.before.requires)),
+      ap (λ (bytes : List ℕ). set bytes (a.at + l.i) 32) l.invariant.1 ∙ spaces_next a.buffer.now a.at l.i (omega (arith, c.loop-i-test.true, c.requires)),
       simp length-set l.invariant.2,
     )
 
-add-result : tie.Need-overflow-add-result invariant-loop decreases-loop
+add-result : tie.Need-overflow_add-result invariant-loop decreases-loop
 add-result c = omega arith
 
-same_length : tie.Need-same-length invariant-loop decreases-loop
+same_length : tie.Need-shape_of-buffer invariant-loop decreases-loop
 same_length c = omega arith
 
 returns : tie.Need-returns invariant-loop decreases-loop
 returns c =
-    let a = c.before.before.args in
-    let all : c.before.loop.i ≡ a.count = omega arith in
+    let a = c.args in
+    let all : c.loop-i.i ≡ a.count = omega arith in
     record {
       ends = omega (arith, spaces-length a.count);
-      bytes = c.before.loop.invariant.1 ∙ ap (λ (n : ℕ). laid_at a.buffer.now a.at (spaces n)) all;
+      bytes = c.loop-i.invariant.1 ∙ ap (λ (n : ℕ). laid_at a.buffer.now a.at (spaces n)) all;
     }
 
-pub put-spaces-spec : {M : Type 1} → statement M
-put-spaces-spec =
+pub put_spaces_spec : {M : Type 1} → statement M
+put_spaces_spec =
     tie.close
     (tie.spec
     invariant-loop

@@ -25,84 +25,84 @@ long s = row_length s.args.name.now s.args.widths.now s.args.values.now
 abbrev room : tie.Start → ℕ
 room s = length s.args.buffer.now - s.args.at - length s.args.name.now
 
-returns : tie.Need-returns
+returns : tie.Need-returns-then-buffer-at
 returns c =
-    let s = c.before.before.before.before in
-    text_short (row s) s.args.buffer.now s.args.at (omega arith)
+    let s = c in
+    text_short (row (c.before.before.before.before)) s.args.buffer.now s.args.at (omega arith)
 
-sub-if2 : tie.Need-overflow-sub-if2
+sub-if2 : tie.Need-overflow_sub-buffer
 sub-if2 c = omega arith
 
-returns-2 : tie.Need-returns-2
+returns-2 : tie.Need-returns-then-buffer-at-2
 returns-2 c =
-    let s = c.before.before.before.before.before in
-    text_short (row s) s.args.buffer.now s.args.at (omega (arith, long s))
+    let s = c in
+    text_short (row (c.before.before.before.before.before)) s.args.buffer.now s.args.at (omega (arith, long (c.before.before.before.before.before)))
 
-sub-cells-fit : tie.Need-overflow-sub-cells-fit
+sub-cells-fit : tie.Need-overflow_sub-buffer-2
 sub-cells-fit c = omega arith
 
-sub-cells-fit-2 : tie.Need-overflow-sub-cells-fit-2
+sub-cells-fit-2 : tie.Need-overflow_sub-buffer-3
 sub-cells-fit-2 c = omega arith
 
-cells-fit-requires : tie.Need-cells-fit-requires
+cells-fit-requires : tie.Need-cells_fit-requires
 cells-fit-requires c κs = tt
 
-abbrev start : tie.Then3 → tie.Start
+abbrev start : tie.Then-cells_fit → tie.Start
 start c = c.before.before.before.before.before.before.before
 
-fits : (c : tie.Then3) → (start c).args.at + (length (start c).args.name.now + length (cells (start c)) + 1) ≤ length (start c).args.buffer.now
+fits : (c : tie.Then-cells_fit) → (start c).args.at + (length (start c).args.name.now + length (cells (start c)) + 1) ≤ length (start c).args.buffer.now
 fits c =
     let s = start c in
-    let enough : length (cells s) < room s = ltb-true (length (cells s)) (room s) (sym c.before.cells_fit.ensures ∙ c.if3.true) in
-    omega (arith, enough, c.before.before.if2.false, c.before.before.before.if1.false)
+    let enough : length (cells (c.before.before.before.before.before.before.before)) < room s = ltb-true (length (cells (c.before.before.before.before.before.before.before))) (room (c.before.before.before.before.before.before.before)) (sym c.cells_fit.ensures ∙ c.if-cells_fit.true) in
+    omega (arith, enough, c.if-buffer-at-2.false, c.if-buffer-at.false)
 
-put-bytes-requires : tie.Need-put-bytes-requires
-put-bytes-requires c κs = omega (arith, fits c.before)
+put-bytes-requires : tie.Need-put_bytes-start-requires
+put-bytes-requires c κs = omega (arith, fits (c.before))
 
-put-cells-requires : tie.Need-put-cells-requires
+put-cells-requires : tie.Need-put_cells-end-requires
 put-cells-requires c κs =
-    let name = c.before.before.before in
-    omega (arith, fits name.before.before, name.put-bytes.ensures.ends, name.put-bytes.auto.0)
+    let name = c in
+    omega (arith, fits (c.before.before.before.before.before), name.put_bytes-start.ensures.ends, name.put_bytes-start.auto.buffer)
 
 -- the byte behind the cells
-within : (c : tie.After-put-cells) → c.put-cells.result < length c.put-cells.new.0
+within : (c : tie.After-put_cells-end) → c.put_cells-end.result < length c.put_cells-end.new.buffer
 within c =
-    let name = c.before.before.before.before in
-    omega (arith, fits name.before.before, name.put-bytes.ensures.ends, name.put-bytes.auto.0, c.put-cells.ensures.ends, c.put-cells.auto.0)
+    let name = c in
+    omega (arith, fits (c.before.before.before.before.before.before), name.put_bytes-start.ensures.ends, name.put_bytes-start.auto.buffer, c.put_cells-end.ensures.ends, c.put_cells-end.auto.buffer)
 
-slice-write-buffer : tie.Need-slice-write-buffer
-slice-write-buffer c = within c.before.before
+slice-write-buffer : tie.Need-bounds-buffer-end
+slice-write-buffer c = within (c.before.before)
 
-add-t19 : tie.Need-overflow-add-t19
-add-t19 c = omega (arith, within c.before.before)
+add-t19 : tie.Need-overflow_add-result
+add-t19 c = omega (arith, within (c.before.before))
 
-same_length : tie.Need-same-length
+same_length : tie.Need-shape_of-buffer-then-cells_fit
 same_length c =
-    let laid = c.before.before in
-    let name = laid.before.before.before.before in
-    simp length-set (laid.put-cells.auto.0 ∙ name.put-bytes.auto.0)
+    let laid = c in
+    let name = laid in
+    simp length-set (laid.put_cells-end.auto.buffer ∙ name.put_bytes-start.auto.buffer)
 
-returns-3 : tie.Need-returns-3
+returns-3 : tie.Need-returns-then-cells_fit
 returns-3 c =
-    let laid = c.before.before in
-    let name = laid.before.before.before.before in
-    let enough = fits name.before.before in
-    let s = start name.before.before in
+    let laid = c in
+    let name = laid in
+    let enough = fits (c.before.before.before.before.before.before.before.before) in
+    let s = start (c.before.before.before.before.before.before.before.before) in
     text_stands
-    (laid_both name.put-bytes.ensures
-    (laid_both laid.put-cells.ensures (record { ends = refl; bytes = laid_byte laid.put-cells.new.0 laid.put-cells.result 10 (within laid) })
-    (omega (arith, enough, name.put-bytes.ensures.ends, name.put-bytes.auto.0)))
+    (laid_both name.put_bytes-start.ensures
+    (laid_both laid.put_cells-end.ensures (record { ends = refl; bytes = laid_byte laid.put_cells-end.new.buffer laid.put_cells-end.result 10 (within (c.before.before)) })
+    (omega (arith, enough, name.put_bytes-start.ensures.ends, name.put_bytes-start.auto.buffer)))
     (omega (arith, enough)))
-    (omega (arith, enough, long s))
+    (omega (arith, enough, long (c.before.before.before.before.before.before.before.before.before.before.before.before.before.before.before)))
 
-returns-4 : tie.Need-returns-4
+returns-4 : tie.Need-returns
 returns-4 c =
-    let s = c.before.before.before.before.before.before.before in
-    let beyond = ltb-false (length (cells s)) (room s) (sym c.before.cells_fit.ensures ∙ c.if3.false) in
-    text_short (row s) s.args.buffer.now s.args.at (omega (arith, beyond, long s))
+    let s = c in
+    let beyond = ltb-false (length (cells (c.before.before.before.before.before.before.before))) (room (c.before.before.before.before.before.before.before)) (sym c.cells_fit.ensures ∙ c.if-cells_fit.false) in
+    text_short (row (c.before.before.before.before.before.before.before)) s.args.buffer.now s.args.at (omega (arith, beyond, long (c.before.before.before.before.before.before.before)))
 
-pub write-row-spec : {M : Type 1} → statement M
-write-row-spec =
+pub write_row_spec : {M : Type 1} → statement M
+write_row_spec =
     tie.close
     (tie.spec
     returns
