@@ -1,7 +1,7 @@
 -- The order of ℤ, its ring laws and its tests. `≤ℤ_refl`, `<ℤ-≤ℤ_trans`, `clash_ℤ` are in lib.Signed, `+ℤ_assoc`, `+ℤ_comm`, `*ℤ-comm` in lib.IntN.
 use mathlib.Core.Path.{◌≡◌, refl, sym}
 use mathlib.Core.Logic.{◌↔◌, ◌⊎◌, inl, inr}
-use mathlib.Core.Bool.{Bool, true, false, not, and-eq-true_iff}
+use mathlib.Core.Bool.{Bool, true, false, not}
 use Prim.Native.Nat.{ℕ, suc, ◌+◌, ◌*◌, ◌≤◌, ◌<◌}
 use native.Mathlib.Omega.{arith}
 use borrow.Author.Tests.{ltb-true, ltb-false, leb-true, leb-false, lt-ltb, le-ltb, le-leb, lt-leb}

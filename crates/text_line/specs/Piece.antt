@@ -1,5 +1,5 @@
 -- Parts of a byte string. A schema's keys are a byte string of pieces, each ended by one mark, `=` (61).
-use Rattle.std.specs.Prelude.{ℕ, zero, suc, ◌+◌, ◌-◌, List, [], ◌∷◌, ◌++◌, eqb, take, drop, cond}
+use Rattle.std.specs.Prelude.{ℕ, zero, suc, ◌-◌, List, [], ◌∷◌, ◌++◌, eqb, take, drop, cond}
 
 -- the bytes from one position to another
 abbrev pub part : List ℕ → ℕ → ℕ → List ℕ

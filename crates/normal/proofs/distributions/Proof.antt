@@ -8,10 +8,6 @@ use Rattle.normal.specs.Normal.{normal}
 use Rattle.normal.proofs.Four.{four}
 use Rattle.normal.proofs.distributions.Statement.{statement}
 use Rattle.normal.proofs.distributions.Tie as tie
-use Rattle.normal.proofs.distributions.Reads as reads
-use Rattle.normal.proofs.distributions.Lts as lts
-use Rattle.normal.proofs.both_halves.Reads as both-halves-reads
-use Rattle.normal.proofs.table_of_knots.Reads as table-of-knots-reads
 
 table-of-knots-requires : tie.Need-table_of_knots-table-requires
 table-of-knots-requires c κs = search rules

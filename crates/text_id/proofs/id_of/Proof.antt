@@ -1,7 +1,6 @@
 -- The bytes that are left decide. The measure is what is left of the value.
 use Prim.Native.Nat.{◌-◌}
 use mathlib.Core.Path.{sym, ◌∙◌}
-use borrow.Author.Tests.{not-true, not-false}
 use lib.ListN.{length}
 use Rattle.text_id.proofs.Ids.{IdFrom, id_none, id_long, id_start, id_over, id_other, id_more}
 use native.Mathlib.Omega.{arith}

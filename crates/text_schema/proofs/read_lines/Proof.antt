@@ -8,7 +8,6 @@ use mir.Syntax.{w64}
 use mir.Facts.{to_z-of_z}
 use Rattle.text_line.specs.Field.{next_at}
 use Rattle.text_number.specs.Number.{number_in}
-use Rattle.text_number.proofs.Fields.{not_taken}
 use Rattle.text_schema.specs.Schema.{value}
 use Rattle.text_schema.proofs.Schemas.{LinesFrom, lines_start, lines_full, lines_keys, lines_refused, lines_within, lines_more}
 use native.Mathlib.Omega.{arith}

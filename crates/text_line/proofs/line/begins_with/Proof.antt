@@ -1,5 +1,5 @@
 -- What is left of the key is held against what is left of the text's first line; the first byte that differs, or ends the line, decides.
-use Prim.Native.Nat.{◌-◌, ◌≤◌, ◌<◌}
+use Prim.Native.Nat.{◌-◌, ◌≤◌}
 use mathlib.Core.Path.{◌≡◌, refl, sym, ◌∙◌}
 use lib.ListN.{length, take, drop}
 use Rattle.text_line.specs.Line.{line_length, begins}
