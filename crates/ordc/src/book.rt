@@ -7,8 +7,7 @@ use curve_booking::book;
 use text_refusal::answer::Answer;
 
 // An hour's text booked on a lent record, which a refusal leaves as it was.
-#[unsafe(no_mangle)]
-pub extern "C" fn ordc_book(history: &mut [i64; 72], text: &[u8]) -> Reply
+pub fn ordc_book(history: &mut [i64; 72], text: &[u8]) -> Reply
     ensures { BookCalled history.old text.now history.new result }
 {
     let booking = book(record_of(history), text);

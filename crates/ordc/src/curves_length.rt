@@ -7,8 +7,7 @@ use curve_text::WrittenCurves;
 use curve_text::length::curves_length;
 
 // The length of a lent curve set's text, before it is written; a refusal leaves the lent length as it was.
-#[unsafe(no_mangle)]
-pub extern "C" fn ordc_curves_length(curves: &[i64; 50], length: &mut usize) -> Reply
+pub fn ordc_curves_length(curves: &[i64; 50], length: &mut usize) -> Reply
     ensures { CurvesLengthCalled curves.now length.old length.new result }
 {
     let ended = curves_length(curves_of(*curves));

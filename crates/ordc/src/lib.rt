@@ -1,5 +1,5 @@
-// What hosts link: booking, settling, reading and writing a curve text, writing a page, pricing, reading and writing a snapshot held as values, and the length of a
-// text before it is written; over bytes and numbers alone, under names of C.
+// What hosts call: booking, settling, reading and writing a curve text, writing a page, pricing, reading and writing a snapshot held as values, and the length of a
+// text before it is written; over bytes and numbers alone, under the names of C by which `ordc_c` exports them.
 #![tactic(auto)]
 
 pub mod book;

@@ -7,8 +7,7 @@ use pricing::price;
 use pricing_adder::price::{Pricing, price_values};
 
 // A snapshot's text priced on a lent curve set; a refusal leaves the lent answer as it was.
-#[unsafe(no_mangle)]
-pub extern "C" fn ordc_price(curves: &[i64; 50], text: &[u8], answer: &mut [i64; 6]) -> Reply
+pub fn ordc_price(curves: &[i64; 50], text: &[u8], answer: &mut [i64; 6]) -> Reply
     ensures { PriceCalled curves.now text.now answer.old answer.new result }
 {
     let pricing = price(curves_of(*curves), text);

@@ -7,8 +7,7 @@ use curve_text::read_curves;
 use text_refusal::answer::Answer;
 
 // A curve text read into a lent curve set, which a refusal leaves as it was.
-#[unsafe(no_mangle)]
-pub extern "C" fn ordc_read_curves(text: &[u8], curves: &mut [i64; 50]) -> Reply
+pub fn ordc_read_curves(text: &[u8], curves: &mut [i64; 50]) -> Reply
     ensures { ReadCurvesCalled text.now curves.old curves.new result }
 {
     let read = read_curves(text);

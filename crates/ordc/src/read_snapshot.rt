@@ -6,8 +6,7 @@ use pricing_held_reading::read_held;
 use text_refusal::answer::Answer;
 
 // A snapshot's text read into a lent header and lent rows, which a refusal leaves as they were.
-#[unsafe(no_mangle)]
-pub extern "C" fn ordc_read_snapshot(
+pub fn ordc_read_snapshot(
     text: &[u8],
     header: &mut [i64; 8],
     ids: &mut [u8],

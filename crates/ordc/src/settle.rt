@@ -8,13 +8,7 @@ use curve_settling::settle;
 use text_refusal::answer::Answer;
 
 // The curves of a lent record, with VOLL in cents per MWh and the minimum contingency level X in kW, laid into a lent curve set, which a refusal leaves as it was.
-#[unsafe(no_mangle)]
-pub extern "C" fn ordc_settle(
-    history: &[i64; 72],
-    voll: i64,
-    floor: i64,
-    curves: &mut [i64; 50],
-) -> Reply
+pub fn ordc_settle(history: &[i64; 72], voll: i64, floor: i64, curves: &mut [i64; 50]) -> Reply
     ensures { SettleCalled history.now voll floor curves.old curves.new result }
 {
     let settled = settle(record_of(history), voll, floor);

@@ -5,8 +5,7 @@ use crate::reply::{ACCEPTED, Reply, refused};
 use pricing_held_text::{HeldText, held_length};
 
 // The length of the text of lent values, before it is written; a refusal leaves the lent length as it was.
-#[unsafe(no_mangle)]
-pub extern "C" fn ordc_snapshot_length(
+pub fn ordc_snapshot_length(
     header: &[i64; 8],
     ids: &[u8],
     numbers: &[i64],

@@ -6,12 +6,7 @@ use curve_set::values::curves_of;
 use curve_text::{WrittenCurves, write_curves};
 
 // A lent curve set's text written into a lent buffer, and its length; a refusal leaves the buffer and the length as they were.
-#[unsafe(no_mangle)]
-pub extern "C" fn ordc_write_curves(
-    curves: &[i64; 50],
-    buffer: &mut [u8],
-    written: &mut usize,
-) -> Reply
+pub fn ordc_write_curves(curves: &[i64; 50], buffer: &mut [u8], written: &mut usize) -> Reply
     ensures { WriteCurvesCalled curves.now buffer.old written.old buffer.new written.new result }
 {
     let ended = write_curves(curves_of(*curves), buffer);

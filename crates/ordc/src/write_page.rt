@@ -7,8 +7,7 @@ use curve_set::values::curves_of;
 use text_refusal::answer::Answer;
 
 // A lent curve set's page written into a lent buffer, which a refusal leaves as it was.
-#[unsafe(no_mangle)]
-pub extern "C" fn ordc_write_page(curves: &[i64; 50], buffer: &mut [u8]) -> Reply
+pub fn ordc_write_page(curves: &[i64; 50], buffer: &mut [u8]) -> Reply
     ensures { WritePageCalled curves.now buffer.old buffer.new result }
 {
     let answer = write_page(curves_of(*curves), buffer);

@@ -5,8 +5,7 @@ use crate::reply::{ACCEPTED, Reply, refused};
 use pricing_held_text::{HeldText, write_held};
 
 // The text of lent values written into a lent buffer, and its length; a refusal leaves the buffer and the length as they were.
-#[unsafe(no_mangle)]
-pub extern "C" fn ordc_write_snapshot(
+pub fn ordc_write_snapshot(
     header: &[i64; 8],
     ids: &[u8],
     numbers: &[i64],
