@@ -33,7 +33,7 @@ abbrev decreases-loop : tie.decreases-loop-i
 decreases-loop curves i₀ i = 24 - i
 
 long : (c : tie.Start invariant-loop decreases-loop) → length c.args.curves.pairs ≡ 24
-long c = simp length-map at c.well_formed.0.1.1.1.1.0.1.0.1
+long c = search rules
 
 loop-holds : tie.Need-loop-i-init invariant-loop decreases-loop
 loop-holds c = (omega arith, refl)

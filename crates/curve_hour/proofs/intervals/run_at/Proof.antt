@@ -15,9 +15,6 @@ slice-aggregate-read-lines-2 c = refl
 slice-aggregate-read-lines-3 : tie.Need-slice_bounds-read_lines-end-4
 slice-aggregate-read-lines-3 c = refl
 
-slice-aggregate-read-lines-4 : tie.Need-slice-aggregate-read-lines-4
-slice-aggregate-read-lines-4 c = refl
-
 read-lines-requires : tie.Need-read_lines-b-requires
 read-lines-requires c κs = tt
 
@@ -55,7 +52,6 @@ run_at_spec =
     slice-aggregate-read-lines
     slice-aggregate-read-lines-2
     slice-aggregate-read-lines-3
-    slice-aggregate-read-lines-4
     read-lines-requires
     enum-known-b
     enum-known-b-2

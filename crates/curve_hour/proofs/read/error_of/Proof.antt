@@ -32,7 +32,7 @@ returns c =
       held mean.result mean.type_inv,
       mean.ensures,
       to_z-of_z start.ranges.sum,
-      group.Group-of.ensures,
+      group.group_of.ensures,
       group.magnitude_at-2.ensures,
       group.magnitude_at.ensures,
     )

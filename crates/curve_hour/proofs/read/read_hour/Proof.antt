@@ -12,15 +12,6 @@ returns c = hour_long _ c.if-text-gt65536.true
 slice-aggregate-read-lines : tie.Need-slice_bounds-read_lines-end-4
 slice-aggregate-read-lines c = refl
 
-slice-aggregate-read-lines-2 : tie.Need-slice-aggregate-read-lines-2
-slice-aggregate-read-lines-2 c = refl
-
-slice-aggregate-read-lines-3 : tie.Need-slice-aggregate-read-lines-3
-slice-aggregate-read-lines-3 c = refl
-
-slice-aggregate-read-lines-4 : tie.Need-slice-aggregate-read-lines-4
-slice-aggregate-read-lines-4 c = refl
-
 read-lines-requires : tie.Need-read_lines-b-requires
 read-lines-requires c κs = tt
 
@@ -64,9 +55,6 @@ read_hour_spec =
     (tie.spec
     returns
     slice-aggregate-read-lines
-    slice-aggregate-read-lines-2
-    slice-aggregate-read-lines-3
-    slice-aggregate-read-lines-4
     read-lines-requires
     enum-known-b
     refusal-of-requires

@@ -102,7 +102,7 @@ add-line-3 c = fitting c
 returns-2 : tie.Need-returns-then-room-line invariant-loop decreases-loop
 returns-2 c =
     let n = c in
-    let s = (turn (c.before)).before in
+    let s = c in
     sym (lt-leb (length (text s)) s.args.room (omega (arith, c.if-room-line.true, (turn (c.before)).loop-i.invariant.1, longer (c.before), marked_within (passed (c.before)).0)))
 
 add-i : tie.Need-overflow_add-i invariant-loop decreases-loop

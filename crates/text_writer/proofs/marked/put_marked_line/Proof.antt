@@ -63,12 +63,12 @@ put-bytes-requires : tie.Need-put_bytes-requires
 put-bytes-requires c κs =
     let t = c in
     let p = line_of (c.before.before.before) in
-    omega (arith, room (c.before.before.before), (laid (c.before.before.before.before.before.before)).ends, ended (c.before.before.before.before.before.before), p.put_line-next.kept.0)
+    omega (arith, room (c.before.before.before), (laid (c.before.before.before.before.before.before)).ends, ended (c.before.before.before.before.before.before), p.put_line-next.auto.buffer)
 
 same_length : tie.Need-shape_of-buffer-then-suspect
 same_length c =
     let b = c in
-    b.put_bytes.auto.buffer ∙ (line_of (c.before.before.before.before.before.before)).put_line-next.auto.0
+    b.put_bytes.auto.buffer ∙ (line_of (c.before.before.before.before.before.before)).put_line-next.auto.buffer
 
 returns : tie.Need-returns-then-suspect
 returns c =
