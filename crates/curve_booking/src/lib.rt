@@ -14,7 +14,7 @@ use text_refusal::answer::Answer;
 use text_refusal::refusal::Refusal;
 
 // A record after an hour was booked, or as it was before where the hour was refused.
-#[derive(Drop)]
+#[derive(Clone, Copy)]
 pub struct Booking {
     pub history: Record,
     pub answer: Answer,

@@ -23,14 +23,14 @@ const HIGHS: [i64; 13] = [
 ];
 
 // The group and the reserve error of an hour, in kW.
-#[derive(Drop)]
+#[derive(Clone, Copy)]
 pub enum ReadHour {
     Error { group: u64, error: i64 },
     Refused(Refusal),
 }
 
 // The sum of the runs' reserves and where their lines end, or the refused line.
-#[derive(Drop)]
+#[derive(Clone, Copy)]
 pub(crate) enum Intervals {
     Sum { sum: i64, next: usize },
     Refused(Fault),

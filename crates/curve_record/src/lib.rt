@@ -15,7 +15,7 @@ pub struct Group {
     pub squares: i64,
 }
 
-#[derive(Drop)]
+#[derive(Clone, Copy)]
 pub struct Record {
     pub groups: [Group; 24],
 }

@@ -36,7 +36,7 @@ pub struct Pair {
 }
 
 // VOLL in cents per MWh, and X in kW.
-#[derive(Drop)]
+#[derive(Clone, Copy)]
 pub struct CurveSet {
     pub voll: i64,
     pub floor: i64,
@@ -44,7 +44,7 @@ pub struct CurveSet {
 }
 
 // A curve set that was read or settled; on a refusal all of it is zero.
-#[derive(Drop)]
+#[derive(Clone, Copy)]
 pub struct Curves {
     pub set: CurveSet,
     pub answer: Answer,

@@ -21,7 +21,7 @@ use text_schema::read_lines;
 use text_writer::{Written, write_lines};
 
 // How many bytes a curve text has, or why it is not written.
-#[derive(Drop)]
+#[derive(Clone, Copy)]
 pub enum WrittenCurves {
     Length(usize),
     Refused(Refusal),

@@ -5,7 +5,7 @@ ghost use Rattle.text_refusal.specs.declared.answer.Answer.TheVariants as answer
 
 // A refusal's number and line; both 0 where nothing was refused.
 #[repr(C)]
-#[derive(Drop)]
+#[derive(Clone, Copy)]
 pub struct Reply {
     pub number: u64,
     pub line: u64,

@@ -15,7 +15,7 @@ use pricing_sums::{Sums, sums_possible};
 use text_refusal::refusal::Refusal;
 
 // Both reserves in kW, both probabilities in billionths, both prices in cents per MWh.
-#[derive(Drop)]
+#[derive(Clone, Copy)]
 pub struct Prices {
     pub rs: i64,
     pub rsns: i64,
@@ -26,7 +26,7 @@ pub struct Prices {
     pub offline: u32,
 }
 
-#[derive(Drop)]
+#[derive(Clone, Copy)]
 pub enum Pricing {
     Priced(Prices),
     Refused(Refusal),

@@ -6,14 +6,14 @@ ghost use Rattle.pricing_resource_text.specs.Resource.{kind_field, status_field}
 ghost use Rattle.pricing_held_reading.specs.internal.Laying.{Got, DigitsStand, NumberStands, NumbersStand};
 
 // A word by its place in its list, and where the next line starts.
-#[derive(Drop)]
+#[derive(Clone, Copy)]
 pub(crate) struct WordAt {
     pub index: usize,
     pub next: usize,
 }
 
 // The digits of a number by their value, whether a mark stands behind them, and where the next line starts.
-#[derive(Drop)]
+#[derive(Clone, Copy)]
 pub(crate) struct DigitsAt {
     pub value: u64,
     pub suspect: bool,
@@ -21,7 +21,7 @@ pub(crate) struct DigitsAt {
 }
 
 // A number, whether it is marked suspect, and where the next line starts.
-#[derive(Drop)]
+#[derive(Clone, Copy)]
 pub(crate) struct NumberAt {
     pub value: i64,
     pub suspect: bool,
@@ -29,7 +29,7 @@ pub(crate) struct NumberAt {
 }
 
 // The marks of numbers that were laid, 1 for the first number, 2 for the second, 4 for the third, and so on; where the next line starts.
-#[derive(Drop)]
+#[derive(Clone, Copy)]
 pub(crate) struct NumbersLaid {
     pub marks: u64,
     pub next: usize,

@@ -16,7 +16,7 @@ use text_refusal::refusal::Refusal;
 use text_writer::Written;
 
 // The length of a text in bytes, or why it is not written.
-#[derive(Drop)]
+#[derive(Clone, Copy)]
 pub enum HeldText {
     Length(usize),
     Refused(Refusal),

@@ -17,7 +17,7 @@ use text_refusal::refusal::Fault;
 use text_word::Word;
 
 // A resource read and where the next one starts, or a refused line.
-#[derive(Drop)]
+#[derive(Clone, Copy)]
 pub enum ResourceLines {
     Read { resource: Resource, next: usize },
     Refused(Fault),

@@ -10,7 +10,7 @@ use text_number::number_of;
 use text_refusal::refusal::Fault;
 
 // Which of the numbers read are marked and where their lines end, or a refused line.
-#[derive(Drop)]
+#[derive(Clone, Copy)]
 pub(crate) enum MarkedLines {
     Read { marks: u64, next: usize },
     Refused(Fault),

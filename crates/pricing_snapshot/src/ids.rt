@@ -7,7 +7,7 @@ use text_line::line::{line_value, value_fault};
 use text_refusal::refusal::Fault;
 
 // A new id, and where the lines after it start; or the refused line.
-#[derive(Drop)]
+#[derive(Clone, Copy)]
 pub(crate) enum NewId {
     Next(usize),
     Refused(Fault),

@@ -19,7 +19,7 @@ use text_line::{Lines, end_at};
 use text_refusal::refusal::{Refusal, refusal_of};
 
 // The header and the sums of a snapshot, or why it is refused.
-#[derive(Drop)]
+#[derive(Clone, Copy)]
 pub enum Snapshot {
     Read { header: Header, sums: Sums },
     Refused(Refusal),

@@ -19,7 +19,7 @@ use pricing_sums::part::part_of;
 use text_refusal::refusal::Fault;
 
 // The sums of the resources, how many lines the text has up to there, and the first line that a mark turns back; 0 where there is none.
-#[derive(Drop)]
+#[derive(Clone, Copy)]
 pub struct Tally {
     pub sums: Sums,
     pub lines: usize,
@@ -27,7 +27,7 @@ pub struct Tally {
 }
 
 // What the resources come to and where their lines end, or the refused line.
-#[derive(Drop)]
+#[derive(Clone, Copy)]
 pub enum Resources {
     Read { tally: Tally, next: usize },
     Refused(Fault),

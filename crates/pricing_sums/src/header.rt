@@ -6,7 +6,7 @@ ghost use Rattle.pricing_sums.specs.Header.{low_at, high_at, header_fault};
 use integer::range::is_within;
 
 // The numbers of a snapshot's header, in the order of its lines.
-#[derive(Drop)]
+#[derive(Clone, Copy)]
 pub struct Header {
     pub month: i64,
     pub hour: i64,

@@ -10,7 +10,7 @@ ghost use Rattle.pricing_sums.specs.Sums.{sums_possible};
 use integer::range::is_within;
 
 // What the resources add up to, in kW: each sum is the sum of the resources' parts, so the load cap, which holds for the total, is not yet applied.
-#[derive(Drop)]
+#[derive(Clone, Copy)]
 pub struct Sums {
     // G: HSL less base point less Non-Spin of the units counted on line.
     pub generation: i64,

@@ -7,7 +7,7 @@ use crate::ending::{due_line, end_byte, stops};
 use crate::{Stream, is_refused};
 
 // How many bytes are held, and where the next byte of the part stands.
-#[derive(Drop)]
+#[derive(Clone, Copy)]
 struct Place {
     held: usize,
     next: usize,

@@ -14,7 +14,7 @@ use curve_record::{Record, fresh};
 use text_refusal::refusal::Refusal;
 
 // What the stream waits for, or why it ended.
-#[derive(Drop)]
+#[derive(Clone, Copy)]
 pub enum Stage {
     // The `voll` line, then the `floor` line.
     Voll,
@@ -26,7 +26,7 @@ pub enum Stage {
 }
 
 // The stream between two parts of the input. The bytes of the line or hour that has begun stand at the start of a lent buffer.
-#[derive(Drop)]
+#[derive(Clone, Copy)]
 pub struct Stream {
     pub stage: Stage,
     pub voll: i64,

@@ -17,7 +17,7 @@ use text_writer::Written;
 use text_writer::output::write_refusal;
 
 // What ended the stream, and whether the refused text is `hour` or `settle`.
-#[derive(Drop)]
+#[derive(Clone, Copy)]
 struct Ending {
     found: Refusal,
     hour: bool,

@@ -5,7 +5,7 @@ ghost use Rattle.std.specs.Prelude.{◌≡◌};
 ghost use Rattle.text_id.specs.Id.{is_id_byte, id_in};
 
 // Whether a value's bytes are an id; any other value is badly written (6).
-#[derive(Drop)]
+#[derive(Clone, Copy)]
 pub enum Id {
     Valid,
     Malformed,

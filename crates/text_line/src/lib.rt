@@ -10,7 +10,7 @@ pub mod line;
 pub mod piece;
 
 // Every due line was read and the next one starts at next, or a line was refused.
-#[derive(Drop)]
+#[derive(Clone, Copy)]
 pub enum Lines {
     Read { next: usize },
     Refused(Fault),

@@ -12,7 +12,7 @@ ghost use Rattle.text_number.specs.internal.Natural.{signed, signed_number, is_o
 use crate::natural::{Natural, natural_of};
 
 // What the bytes of a value say: a number in its range, one outside it (7), or none, since it is badly written (6).
-#[derive(Drop)]
+#[derive(Clone, Copy)]
 pub enum Number {
     Value(i64),
     Outside,

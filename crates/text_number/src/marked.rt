@@ -6,7 +6,7 @@ use crate::{Number, number_of};
 use text_line::piece::part;
 
 // What the bytes of a value say: a number in its range, without a mark or with one, one outside its range (7), or none, since it is badly written (6).
-#[derive(Drop)]
+#[derive(Clone, Copy)]
 pub enum MarkedNumber {
     Plain(i64),
     Suspect(i64),

@@ -4,7 +4,7 @@ ghost use Rattle.text_number.specs.Number.{all_digits};
 ghost use Rattle.text_number.specs.internal.Natural.{held_natural};
 
 // The magnitude that digits write; Large where there are more than nineteen.
-#[derive(Drop)]
+#[derive(Clone, Copy)]
 pub(crate) enum Natural {
     Value(u64),
     Large,

@@ -3,14 +3,14 @@ ghost use Rattle.std.specs.Prelude.{◌≡◌};
 ghost use Rattle.text_refusal.specs.Refusal.{ended_lines, refusal_of};
 
 // A refusal within a text: its number in the checking order, and where the refused line starts.
-#[derive(Drop)]
+#[derive(Clone, Copy)]
 pub struct Fault {
     pub number: u64,
     pub at: usize,
 }
 
 // A refusal as a caller sees it: its number, and the line, the first line being 1.
-#[derive(Drop)]
+#[derive(Clone, Copy)]
 pub struct Refusal {
     pub number: u64,
     pub line: usize,

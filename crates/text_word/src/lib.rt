@@ -5,7 +5,7 @@ ghost use Rattle.std.specs.Prelude.{◌≡◌};
 ghost use Rattle.text_word.specs.Word.{same_bytes};
 
 // Which word of a list a value is, counted from 0.
-#[derive(Drop)]
+#[derive(Clone, Copy)]
 pub enum Word {
     Index(usize),
     Unknown,

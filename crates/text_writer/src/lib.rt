@@ -18,7 +18,7 @@ pub mod output;
 pub mod row;
 
 // How writing ended: the text stands and ends before next, or the buffer is shorter than the text (14).
-#[derive(Drop)]
+#[derive(Clone, Copy)]
 pub enum Written {
     Ended { next: usize },
     Short,

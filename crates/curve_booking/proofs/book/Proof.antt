@@ -13,57 +13,57 @@ use Rattle.curve_booking.proofs.Booked.{answer_refused, answer_error, error_grou
 use Rattle.curve_booking.proofs.book.Statement.{statement}
 use Rattle.curve_booking.proofs.book.Tie as tie
 
-record-possible-requires : tie.Need-record-possible-requires
+record-possible-requires : tie.Need-record_possible-requires
 record-possible-requires c κs = tt
 
 kept-requires : tie.Need-kept-requires
 kept-requires c κs = tt
 
-impossible : (c : tie.Then1) → record_possible c.before.before.before.args.history ≡ false
-impossible c = sym c.before.record-possible.ensures ∙ not-true c.before.record-possible.result c.if1.true
+impossible : (c : tie.Then-not-record_possible) → record_possible c.args.history ≡ false
+impossible c = sym c.record_possible.ensures ∙ not-true c.record_possible.result c.if-not-record_possible.true-raw
 
-is-possible : (c : tie.Else1) → record_possible c.before.before.before.args.history ≡ true
-is-possible c = sym c.before.record-possible.ensures ∙ not-false c.before.record-possible.result c.if1.false
+is-possible : (c : tie.Else-not-record_possible) → record_possible c.args.history ≡ true
+is-possible c = sym c.record_possible.ensures ∙ not-false c.record_possible.result c.if-not-record_possible.false-raw
 
-returns : tie.Need-returns
+returns : tie.Need-returns-then-not-record_possible
 unfolding booked
-returns c = rw (impossible c.before) c.kept.ensures
+returns c = rw (impossible (c.before)) c.auto.ensures
 
-read-hour-requires : tie.Need-read-hour-requires
+read-hour-requires : tie.Need-read_hour-h-requires
 read-hour-requires c κs = tt
 
-enum-known-h : tie.Need-enum-known-h
-enum-known-h c = c.match.keys1
+enum-known-h : tie.Need-enum_known-h
+enum-known-h c = c.in-Refused-1.keys1
 
-enum-known-h-2 : tie.Need-enum-known-h-2
-enum-known-h-2 c = c.match.keys2
+enum-known-h-2 : tie.Need-enum_known-h-in-Error-1
+enum-known-h-2 c = c.in-Error-1.keys2
 
 -- the hour's group and error
-told : (c : tie.After-h2) → error_answer (hour_in c.before.before.before.before.before.before.args.text.now) ≡ read-hour.Error c.h2.given.0.0 c.h2.given.0.1.0
-told c = sym c.before.before.read-hour.ensures ∙ c.h2.given.1
+told : (c : tie.In-Error-2) → error_answer (hour_in c.args.text.now) ≡ read-hour.Error c.in-Error-2.group c.in-Error-2.error
+told c = sym c.read_hour-h.ensures ∙ c.in-Error-2.is
 
-book-error-requires : tie.Need-book-error-requires
+book-error-requires : tie.Need-book_error-requires
 book-error-requires c κs =
-    let h = c.before in
-    (is-possible h.before.before.before, error_group_below h.before.before.before.before.before.before.args.text.now h.h2.given.0.0 h.h2.given.0.1.0 (told h))
+    let h = c in
+    (is-possible (c.before.before), error_group_below h.args.text.now h.in-Error.group h.in-Error.error (told h))
 
-returns-2 : tie.Need-returns-2
+returns-2 : tie.Need-returns-in-Refused
 returns-2 c =
-    let h = c.before in
-    let s = h.before.before.before.before.before.before in
-    sym (answer_refused s.args.history s.args.text.now h.h.given.0.0 (is-possible h.before.before.before)
-    (sym h.before.before.read-hour.ensures ∙ h.h.given.1))
+    let h = c in
+    let s = h in
+    sym (answer_refused s.args.history s.args.text.now h.in-Refused.found (is-possible (c.before.before))
+    (sym h.read_hour-h.ensures ∙ h.in-Refused.is))
 
-returns-3 : tie.Need-returns-3
+returns-3 : tie.Need-returns-in-Error
 returns-3 c =
-    let h = c.before.before in
-    let s = h.before.before.before.before.before.before in
-    let fits : SFits w64 h.h2.given.0.1.0 = sfits_of c.before.known-told2.given.1.0.1 in
-    (rw (to_z-of_z fits) at c.book-error.ensures)
-    ∙ sym (answer_error s.args.history s.args.text.now h.h2.given.0.0 h.h2.given.0.1.0 (is-possible h.before.before.before) (told h))
+    let h = c in
+    let s = h in
+    let fits : SFits w64 h.in-Error.error = sfits_of c.in-Error.known_told-in-Error-1-own.given.1.0.1 in
+    (rw (to_z-of_z fits) at c.book_error.ensures)
+    ∙ sym (answer_error s.args.history s.args.text.now h.in-Error.group h.in-Error.error (is-possible (c.before.before.before)) (told h))
 
-pub book-spec : {M : Type 1} → statement M
-book-spec =
+pub book_spec : {M : Type 1} → statement M
+book_spec =
     tie.close
     (tie.spec
     record-possible-requires

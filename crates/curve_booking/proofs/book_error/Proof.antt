@@ -20,10 +20,10 @@ use Rattle.curve_booking.proofs.book_error.Tie as tie
 abbrev at-hand : tie.Start → Group
 at-hand c = group_at c.args.history c.args.group
 
-mul-g : tie.Need-overflow-mul-g
+mul-g : tie.Need-offset_bounds-changed-group
 mul-g c = group_byte c.requires.1
 
-element-copy-out-g : tie.Need-element-copy-out-g
+element-copy-out-g : tie.Need-bounds-changed-group
 element-copy-out-g c = c.requires.1
 
 -- the element that the code reads
@@ -33,21 +33,21 @@ held c = sym (group_held c.args.history c.args.group)
 kept-requires : tie.Need-kept-requires
 kept-requires c κs = tt
 
-full : (c : tie.Then1) → 1000 ≤ (at-hand c.before.before.before).count
-full c = rw (held c.before.before.before) at c.if1.true
+full : (c : tie.Then-g-ge1000) → 1000 ≤ (at-hand (c.before.before.before)).count
+full c = rw (held (c.before.before.before)) at c.if-g-ge1000.true
 
-room : (c : tie.Else1) → (at-hand c.before.before.before).count < 1000
-room c = rw (held c.before.before.before) at c.if1.false
+room : (c : tie.Else-g-ge1000) → (at-hand (c.before.before.before)).count < 1000
+room c = rw (held (c.before.before.before)) at c.if-g-ge1000.false
 
-returns : tie.Need-returns
+returns : tie.Need-returns-then-g-ge1000
 returns c =
-    let s = c.before.before.before.before in
-    c.kept.ensures ∙ sym (error_full s.args.history s.args.group s.args.e (full c.before))
+    let s = c in
+    c.auto.ensures ∙ sym (error_full s.args.history s.args.group s.args.e (full (c.before)))
 
 magnitude-requires : tie.Need-magnitude-requires
 magnitude-requires c κs = tt
 
-kept-requires-2 : tie.Need-kept-requires-2
+kept-requires-2 : tie.Need-kept-requires-then-magnitude-gt20000000
 kept-requires-2 c κs = tt
 
 abbrev start : tie.After-magnitude → tie.Start
@@ -56,50 +56,50 @@ start c = c.before.before.before.before
 magnitude-is : (c : tie.After-magnitude) → c.magnitude.result ≡ nat_abs (start c).args.e
 magnitude-is c = c.magnitude.ensures ∙ ap nat_abs (to_z-of_z (start c).ranges.e)
 
-returns-2 : tie.Need-returns-2
+returns-2 : tie.Need-returns-then-magnitude-gt20000000
 returns-2 c =
-    let found = c.before.before in
-    let s = start found in
-    let far : 20000000 < nat_abs s.args.e = rw (magnitude-is found) at c.before.if2.true in
-    c.kept2.ensures ∙ sym (error_far s.args.history s.args.group s.args.e (room found.before) far)
+    let found = c in
+    let s = start (c.before.before) in
+    let far : 20000000 < nat_abs s.args.e = rw (magnitude-is (c.before.before)) at c.if-magnitude-gt20000000.true in
+    c.kept-then-magnitude-gt20000000.ensures ∙ sym (error_far s.args.history s.args.group s.args.e (room (c.before.before.before)) far)
 
-near : (c : tie.Else2) → nat_abs (start c.before).args.e ≤ 20000000
-near c = rw (magnitude-is c.before) at c.if2.false
+near : (c : tie.Else-magnitude-gt20000000) → nat_abs (start (c.before)).args.e ≤ 20000000
+near c = rw (magnitude-is (c.before)) at c.if-magnitude-gt20000000.false
 
-with-error-requires : tie.Need-with-error-requires
+with-error-requires : tie.Need-with_error-requires
 with-error-requires c κs =
-    let s = start c.before in
-    rw (held s, to_z-of_z s.fits.e)
-    (bounds_small (at-hand s) (possible_is (at-hand s) (possible_at s.args.history s.pre.0 s.args.group s.pre.1)).small, near c)
+    let s = start (c.before) in
+    rw (held (c.before.before.before.before.before), to_z-of_z s.ranges.e)
+    (bounds_small (at-hand (c.before.before.before.before.before)) (possible_is (at-hand (c.before.before.before.before.before)) (possible_at s.args.history s.pre.0 s.args.group s.pre.1)).small, near c)
 
-mul-t6 : tie.Need-overflow-mul-t6
-mul-t6 c = group_byte (start c.before.before).requires.1
+mul-t6 : tie.Need-offset_bounds-changed-group-2
+mul-t6 c = group_byte (start (c.before.before)).requires.1
 
-element-set-from-changed : tie.Need-element-set-from-changed
-element-set-from-changed c = (start c.before.before).requires.1
+element-set-from-changed : tie.Need-bounds-changed-group-2
+element-set-from-changed c = (start (c.before.before)).requires.1
 
 -- the group with one error more
-grown : (c : tie.After-with-error) → let s = start c.before.before in c.with-error.result ≡ with_error (at-hand s) s.args.e
-grown c = let s = start c.before.before in c.with-error.ensures ∙ ap₂ with_error (held s) (to_z-of_z s.fits.e)
+grown : (c : tie.After-with_error) → let s = start (c.before.before) in c.with_error.result ≡ with_error (at-hand (c.before.before.before.before.before.before)) s.args.e
+grown c = let s = start (c.before.before) in c.with_error.ensures ∙ ap₂ with_error (held (c.before.before.before.before.before.before)) (to_z-of_z s.ranges.e)
 
-changed-is : (c : tie.After-with-error) → let s = start c.before.before in
-    record { groups = set s.args.history.groups s.args.group c.with-error.result } ≡ with_group s.args.history s.args.group (with_error (at-hand s) s.args.e)
+changed-is : (c : tie.After-with_error) → let s = start (c.before.before) in
+    record { groups = set s.args.history.groups s.args.group c.with_error.result } ≡ with_group s.args.history s.args.group (with_error (at-hand (c.before.before.before.before.before.before)) s.args.e)
 changed-is c =
-    let s = start c.before.before in
-    sym (replaced_held s.args.history s.args.group c.with-error.result) ∙ ap (with_group s.args.history s.args.group) (grown c)
+    let s = start (c.before.before) in
+    sym (replaced_held s.args.history s.args.group c.with_error.result) ∙ ap (with_group s.args.history s.args.group) (grown c)
 
 -- what is answered, with the record that the hour leaves
 abbrev answered : Record → Booking
 answered history = record { history = history; answer = answer.Accepted }
 
-returns-3 : tie.Need-returns-3
+returns-3 : tie.Need-returns
 returns-3 c =
-    let tested = c.before in
-    let s = start tested.before in
-    ap answered (changed-is c) ∙ sym (error_accepted s.args.history s.args.group s.args.e (room tested.before.before) (near tested))
+    let tested = c in
+    let s = start (c.before.before) in
+    ap answered (changed-is c) ∙ sym (error_accepted s.args.history s.args.group s.args.e (room (c.before.before.before)) (near (c.before)))
 
-pub book-error-spec : {M : Type 1} → statement M
-book-error-spec =
+pub book_error_spec : {M : Type 1} → statement M
+book_error_spec =
     tie.close
     (tie.spec
     mul-g

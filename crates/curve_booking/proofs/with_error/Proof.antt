@@ -40,25 +40,25 @@ steps g e h =
 fitting : (c : tie.Start) → Steps c.args.g c.args.e
 fitting c = steps c.args.g c.args.e c.requires
 
-add-t3 : tie.Need-overflow-add-t3
-add-t3 c = omega (arith, c.before.requires.0.count)
+add-t3 : tie.Need-overflow_add-result
+add-t3 c = omega (arith, c.requires.0.count)
 
-add-t4 : tie.Need-overflow-add-t4
-add-t4 c = let s = fitting c.before.before.before in rw (to_z-of_z s.before-sum, to_z-of_z s.error) s.sum
+add-t4 : tie.Need-overflow_add-result-2
+add-t4 c = let s = fitting (c.before.before.before) in rw (to_z-of_z s.before-sum, to_z-of_z s.error) s.sum
 
-mul-t5 : tie.Need-overflow-mul-t5
-mul-t5 c = let s = fitting c.before.before.before in rw (to_z-of_z s.error) s.square
+mul-t5 : tie.Need-overflow_mul-result
+mul-t5 c = let s = fitting (c.before.before.before) in rw (to_z-of_z s.error) s.square
 
-add-t6 : tie.Need-overflow-add-t6
+add-t6 : tie.Need-overflow_add-result-3
 add-t6 c =
-    let s = fitting c.before.before.before.before.before in
+    let s = fitting (c.before.before.before.before.before) in
     rw (to_z-of_z s.before-squares, to_z-of_z s.error, to_z-of_z s.square) s.squares
 
 returns : tie.Need-returns
 unfolding with_error
 returns c =
-    let s = fitting c.before.before.before.before.before in
+    let s = fitting (c.before.before.before.before.before) in
     rw (to_z-of_z s.before-sum, to_z-of_z s.error, to_z-of_z s.sum, to_z-of_z s.before-squares, to_z-of_z s.square, to_z-of_z s.squares)
 
-pub with-error-spec : {M : Type 1} → statement M
-with-error-spec = tie.close (tie.spec add-t3 add-t4 mul-t5 add-t6 returns)
+pub with_error_spec : {M : Type 1} → statement M
+with_error_spec = tie.close (tie.spec add-t3 add-t4 mul-t5 add-t6 returns)

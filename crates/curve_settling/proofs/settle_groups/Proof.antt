@@ -25,12 +25,12 @@ use Rattle.curve_record.proofs.Turns.{group_byte, one_more, passed, fewer_left, 
 use Rattle.curve_settling.proofs.settle_groups.Statement.{statement}
 use Rattle.curve_settling.proofs.settle_groups.Tie as tie
 
-abbrev invariant-loop : tie.invariant-loop
+abbrev invariant-loop : tie.invariant-loop-i
 invariant-loop voll floor history pairs₀ i₀ pairs i =
     (i ≤ 24) × (length pairs ≡ 24) × (settled_groups 0 (all_groups history) ≡ settled_groups i (drop i (all_groups history)))
     × (take i pairs ≡ take i (map pair_of (all_groups history)))
 
-abbrev decreases-loop : tie.decreases-loop
+abbrev decreases-loop : tie.decreases-loop-i
 decreases-loop voll floor history pairs₀ i₀ pairs i = 24 - i
 
 -- the first of the groups left
@@ -57,125 +57,125 @@ pairs-step history pairs i h k e =
       e,
     )
 
-abbrev at-hand : tie.In-loop invariant-loop decreases-loop → Group
-at-hand c = group_at c.before.before.args.t1 c.before.loop.i
+abbrev at-hand : tie.In-loop-i invariant-loop decreases-loop → Group
+at-hand c = group_at c.args.history c.loop-i.i
 
 -- the element that the code reads
-held : (c : tie.In-loop invariant-loop decreases-loop) → get_or c.before.before.args.t1.groups c.before.loop.i no_hours ≡ at-hand c
-held c = sym (group_held c.before.before.args.t1 c.before.loop.i)
+held : (c : tie.In-loop-i invariant-loop decreases-loop) → get_or c.args.history.groups c.loop-i.i no_hours ≡ at-hand c
+held c = sym (group_held c.args.history c.loop-i.i)
 
 -- the group at hand decides first
-here : (c : tie.In-loop invariant-loop decreases-loop) → let groups = all_groups c.before.before.args.t1 in let i = c.before.loop.i in
+here : (c : tie.In-loop-i invariant-loop decreases-loop) → let groups = all_groups c.args.history in let i = c.loop-i.i in
     settled_groups 0 groups
     ≡ cond (ltb (at-hand c).count 2) (refusal 12 i) (cond (eqb (spread_of (at-hand c)) 0) (refusal 13 i) (settled_groups (i + 1) (drop (i + 1) groups)))
-here c = c.before.loop.invariant.2 ∙ step c.before.before.args.t1 c.before.loop.i c.loop-test.true
+here c = c.loop-i.invariant.2 ∙ step c.args.history c.loop-i.i c.loop-i-test.true
 
-loop-holds : tie.Need-loop-init invariant-loop decreases-loop
+loop-holds : tie.Need-loop-i-init invariant-loop decreases-loop
 loop-holds c = (omega arith, refl, refl, refl)
 
-mul-g : tie.Need-overflow-mul-g invariant-loop decreases-loop
-mul-g c = group_byte c.loop-test.true
+mul-g : tie.Need-offset_bounds-history-i invariant-loop decreases-loop
+mul-g c = group_byte c.loop-i-test.true
 
-element-copy-out-g : tie.Need-element-copy-out-g invariant-loop decreases-loop
-element-copy-out-g c = c.loop-test.true
+element-copy-out-g : tie.Need-bounds-history-i invariant-loop decreases-loop
+element-copy-out-g c = c.loop-i-test.true
 
-refused-curves-requires : tie.Need-refused-curves-requires invariant-loop decreases-loop
+refused-curves-requires : tie.Need-refused_curves-requires invariant-loop decreases-loop
 refused-curves-requires c κs = tt
 
 -- the count that is tested
-few : (c : tie.Then1 invariant-loop decreases-loop) → (at-hand c.before.before.before).count < 2
-few c = rw (held c.before.before.before) at c.if1.true
+few : (c : tie.Then-g-lt2 invariant-loop decreases-loop) → (at-hand (c.before.before.before)).count < 2
+few c = rw (held (c.before.before.before)) at c.if-g-lt2.true
 
-enough : (c : tie.Else1 invariant-loop decreases-loop) → 2 ≤ (at-hand c.before.before.before).count
-enough c = rw (held c.before.before.before) at c.if1.false
+enough : (c : tie.Else-g-lt2 invariant-loop decreases-loop) → 2 ≤ (at-hand (c.before.before.before)).count
+enough c = rw (held (c.before.before.before)) at c.if-g-lt2.false
 
-returns : tie.Need-returns invariant-loop decreases-loop
+returns : tie.Need-returns-then-g-lt2 invariant-loop decreases-loop
 returns c =
-    let turn = c.before.before.before.before in
-    rw (here turn, lt-ltb (at-hand turn).count 2 (few c.before)) c.refused-curves.ensures
+    let turn = c in
+    rw (here (c.before.before.before.before), lt-ltb (at-hand (c.before.before.before.before)).count 2 (few (c.before))) c.refused_curves.ensures
 
 some : {n : ℕ} → 2 ≤ n → 1 ≤ n
 some h = omega arith
 
-pair-of-requires : tie.Need-pair-of-requires invariant-loop decreases-loop
+pair-of-requires : tie.Need-pair_of-pair-requires invariant-loop decreases-loop
 pair-of-requires c κs =
-    let turn = c.before.before.before in
-    let s = turn.before.before in
-    rw (held turn) (possible_at s.args.t1 s.requires turn.before.loop.i turn.loop-test.true, some (enough c))
+    let turn = c in
+    let s = turn in
+    rw (held (c.before.before.before)) (possible_at s.args.history s.requires turn.loop-i.i turn.loop-i-test.true, some (enough c))
 
-refused-curves-requires-2 : tie.Need-refused-curves-requires-2 invariant-loop decreases-loop
+refused-curves-requires-2 : tie.Need-refused_curves-requires-then-pair-eq0 invariant-loop decreases-loop
 refused-curves-requires-2 c κs = tt
 
-abbrev turn-of : tie.After-pair-of invariant-loop decreases-loop → tie.In-loop invariant-loop decreases-loop
+abbrev turn-of : tie.After-pair_of-pair invariant-loop decreases-loop → tie.In-loop-i invariant-loop decreases-loop
 turn-of c = c.before.before.before.before
 
-pair_is : (c : tie.After-pair-of invariant-loop decreases-loop) → c.pair_of.result ≡ pair_of (at-hand (turn-of c))
-pair_is c = c.pair_of.ensures ∙ ap pair_of (held (turn-of c))
+pair_is : (c : tie.After-pair_of-pair invariant-loop decreases-loop) → c.pair_of-pair.result ≡ pair_of (at-hand (turn-of c))
+pair_is c = c.pair_of-pair.ensures ∙ ap pair_of (held (turn-of c))
 
-spread-is : (c : tie.After-pair-of invariant-loop decreases-loop) → of_z w64 c.pair_of.result.spread ≡ spread_of (at-hand (turn-of c))
+spread-is : (c : tie.After-pair_of-pair invariant-loop decreases-loop) → of_z w64 c.pair_of-pair.result.spread ≡ spread_of (at-hand (turn-of c))
 unfolding pair_of
 spread-is c = ap (λ (p : Pair). of_z w64 p.spread) (pair_is c)
 
-returns-2 : tie.Need-returns-2 invariant-loop decreases-loop
+returns-2 : tie.Need-returns-then-pair-eq0 invariant-loop decreases-loop
 returns-2 c =
-    let made = c.before.before.before.before in
-    let turn = turn-of made in
+    let made = c in
+    let turn = turn-of (c.before.before.before.before) in
     rw (
-      here turn,
-      le-ltb (at-hand turn).count 2 (enough made.before),
-      eq-eqb (spread_of (at-hand turn)) 0 (sym (spread-is made) ∙ c.before.if2.true),
-    ) c.refused-curves2.ensures
+      here (c.before.before.before.before.before.before.before.before),
+      le-ltb (at-hand (c.before.before.before.before.before.before.before.before)).count 2 (enough (c.before.before.before.before.before)),
+      eq-eqb (spread_of (at-hand (c.before.before.before.before.before.before.before.before))) 0 (sym (spread-is (c.before.before.before.before)) ∙ c.if-pair-eq0.true),
+    ) c.refused_curves-then-pair-eq0.ensures
 
 pair-byte : {i : ℕ} → i < 24 → Fits w64 (i * 16)
 pair-byte more = omega arith
 
 -- the turn that set a pair
-abbrev turned : tie.Else2 invariant-loop decreases-loop → tie.In-loop invariant-loop decreases-loop
-turned c = turn-of c.before.before.before
+abbrev turned : tie.Else-pair-eq0 invariant-loop decreases-loop → tie.In-loop-i invariant-loop decreases-loop
+turned c = c.before.before.before.before.before.before.before
 
-mul-pairs : tie.Need-overflow-mul-pairs invariant-loop decreases-loop
-mul-pairs c = pair-byte (turned c).loop-test.true
+mul-pairs : tie.Need-offset_bounds-pairs-i invariant-loop decreases-loop
+mul-pairs c = pair-byte (turned c).loop-i-test.true
 
-array-set-from-pairs : tie.Need-array-set-from-pairs invariant-loop decreases-loop
-array-set-from-pairs c = (turned c).loop-test.true
+array-set-from-pairs : tie.Need-bounds-pairs-i invariant-loop decreases-loop
+array-set-from-pairs c = (turned c).loop-i-test.true
 
-add-i : tie.Need-overflow-add-i invariant-loop decreases-loop
-add-i c = one_more (turned c).loop-test.true
+add-i : tie.Need-overflow_add-i invariant-loop decreases-loop
+add-i c = one_more (turned c).loop-i-test.true
 
-loop-less : tie.Need-loop-smaller invariant-loop decreases-loop
-loop-less c = fewer_left (turned c).loop-test.true
+loop-less : tie.Need-loop-i-smaller invariant-loop decreases-loop
+loop-less c = fewer_left (turned c).loop-i-test.true
 
-loop-again : tie.Need-loop-preserved invariant-loop decreases-loop
+loop-again : tie.Need-loop-i-preserved invariant-loop decreases-loop
 loop-again c =
-    let made = c.before.before.before in
-    let turn = turn-of made in
-    let loop = turn.before.loop in
-    let history = turn.before.before.args.t1 in
-    let inside = turn_within turn.loop-test.taken loop.inv.1 in (
-      passed turn.loop-test.taken,
-      length-set loop.pairs loop.i made.pair_of.result ∙ loop.inv.1,
-      here turn ∙ rw (
-        le-ltb (at-hand turn).count 2 (enough made.before),
-        ne_eqb (spread_of (at-hand turn)) 0 (λ none. c.if2.false (spread-is made ∙ none)),
+    let made = c in
+    let turn = turn-of (c.before.before.before) in
+    let loop = turn.loop-i in
+    let history = turn.args.history in
+    let inside = turn_within turn.loop-i-test.taken loop.invariant.1 in (
+      passed turn.loop-i-test.taken,
+      length-set loop.pairs loop.i made.pair_of-pair.result ∙ loop.invariant.1,
+      here (c.before.before.before.before.before.before.before) ∙ rw (
+        le-ltb (at-hand (c.before.before.before.before.before.before.before)).count 2 (enough (c.before.before.before.before)),
+        ne_eqb (spread_of (at-hand (c.before.before.before.before.before.before.before))) 0 (λ none. c.if-pair-eq0.false (spread-is (c.before.before.before) ∙ none)),
       ),
-      rw (pair_is made) (pairs-step history loop.pairs loop.i turn.loop-test.taken inside loop.inv.3),
+      rw (pair_is (c.before.before.before)) (pairs-step history loop.pairs loop.i turn.loop-i-test.taken inside loop.invariant.3),
     )
 
-returns-3 : tie.Need-returns-3 invariant-loop decreases-loop
+returns-3 : tie.Need-returns invariant-loop decreases-loop
 unfolding settled_groups
 returns-3 c =
-    let s = c.before.before in
-    let loop = c.before.loop in
-    let groups = all_groups s.args.t1 in
-    let last = turns_over c.loop-test.false (all_groups-length s.args.t1) in
-    let short = turns_over c.loop-test.false loop.invariant.1 in
+    let s = c in
+    let loop = c.loop-i in
+    let groups = all_groups s.args.history in
+    let last = turns_over c.loop-i-test.false (all_groups-length s.args.history) in
+    let short = turns_over c.loop-i-test.false loop.invariant.1 in
     let mapped : length (map pair_of groups) ≤ loop.i = rw (length-map groups pair_of) last in
     let pairs : loop.pairs ≡ map pair_of groups = sym (take_all loop.i loop.pairs short) ∙ loop.invariant.3 ∙ take_all loop.i (map pair_of groups) mapped in
     let accepted : settled_groups 0 groups ≡ answer.Accepted = loop.invariant.2 ∙ rw (drop_of_length-le groups last) in
     rw (accepted, to_z-of_z s.ranges.voll, to_z-of_z s.ranges.floor, pairs)
 
-pub settle-groups-spec : {M : Type 1} → statement M
-settle-groups-spec =
+pub settle_groups_spec : {M : Type 1} → statement M
+settle_groups_spec =
     tie.close
     (tie.spec
     invariant-loop

@@ -12,81 +12,73 @@ use Rattle.pricing_resource_text.proofs.Lines.{then_refused, then_more}
 use Rattle.pricing_resource_text.proofs.resource_at.Statement.{statement}
 use Rattle.pricing_resource_text.proofs.resource_at.Tie as tie
 
-slice-aggregate-line-value : tie.Need-slice-aggregate-line-value
-slice-aggregate-line-value c = refl
-
-line-value-requires : tie.Need-line-value-requires
+line-value-requires : tie.Need-line_value-value-requires
 line-value-requires c κs = tt
 
-kind-word-requires : tie.Need-kind-word-requires
+kind-word-requires : tie.Need-kind_word-w-requires
 kind-word-requires c κs = tt
 
-enum-known-w : tie.Need-enum-known-w
-enum-known-w c = c.match.keys1
+enum-known-w : tie.Need-enum_known-w
+enum-known-w c = c.in-Index-1.keys1
 
-enum_told : tie.Need-enum-told
-enum_told c = c.match.keys2
+enum_told : tie.Need-enum_told-1
+enum_told c = c.in_default-1.keys2
 
-slice-aggregate-value-fault : tie.Need-slice-aggregate-value-fault
-slice-aggregate-value-fault c = refl
-
-value-fault-requires : tie.Need-value-fault-requires
+value-fault-requires : tie.Need-value_fault-requires
 value-fault-requires c κs = tt
 
 -- the text and the position, seen from where the kind's word is known
-abbrev text : tie.After-kind-word → List ℕ
-text c = c.before.before.before.before.args.text.now
+abbrev text : tie.After-kind_word-w → List ℕ
+text c = c.args.text.now
 
-abbrev at-line : tie.After-kind-word → ℕ
-at-line c = c.before.before.before.before.args.at
+abbrev at-line : tie.After-kind_word-w → ℕ
+at-line c = c.args.at
 
-returns : tie.Need-returns
+returns : tie.Need-returns-in_default
 unfolding resource_at
 returns c =
-    let told = c.before.before in
-    let w = told.before.before in
-    then_refused {answer = field_at kind_field (text w) (at-line w)} (of_kind (text w))
-    (rw c.value-fault.ensures
-    (word_refused (bytes "kind=") kind_words refl (text w) (at-line w) w.before.line-value.ensures w.kind-word.ensures told.enum_told.given.1))
+    let told = c in
+    let w = told in
+    then_refused {answer = field_at kind_field (text (c.before.before.before.before)) (at-line (c.before.before.before.before))} (of_kind (text (c.before.before.before.before)))
+    (rw c.value_fault.ensures
+    (word_refused (bytes "kind=") kind_words refl (text (c.before.before.before.before)) (at-line (c.before.before.before.before)) w.line_value-value.ensures w.kind_word-w.ensures told.in_default.is))
 
 -- the next line starts within the text
-within : (c : tie.After-known-told) →
-    let w = c.before.before.before in next_at (at-line w) (bytes "kind=") w.before.line-value.result.now ≤ length (text w)
+within : (c : tie.In-Index) →
+    let w = c in next_at (at-line (c.before)) (bytes "kind=") w.line_value-value.result.now ≤ length (text (c.before))
 within c =
-    let w = c.before.before.before in
-    word_within (bytes "kind=") kind_words refl (text w) (at-line w) w.before.line-value.ensures w.kind-word.ensures c.before.w.given.1
+    let w = c in
+    word_within (bytes "kind=") kind_words refl (text (c.before)) (at-line (c.before)) w.line_value-value.ensures w.kind_word-w.ensures c.in-Index.is
 
-add-of-kind : tie.Need-overflow-add-of-kind
+add-of-kind : tie.Need-overflow_add-at
 add-of-kind c = omega (arith, within c)
 
-add-of-kind-2 : tie.Need-overflow-add-of-kind-2
+add-of-kind-2 : tie.Need-overflow_add-at-2
 add-of-kind-2 c = omega (arith, within c)
 
-add-of-kind-3 : tie.Need-overflow-add-of-kind-3
+add-of-kind-3 : tie.Need-overflow_add-at-3
 add-of-kind-3 c = omega (arith, within c)
 
-of-kind-requires : tie.Need-of-kind-requires
+of-kind-requires : tie.Need-of_kind-requires
 of-kind-requires c κs = tt
 
-returns-2 : tie.Need-returns-2
+returns-2 : tie.Need-returns
 unfolding resource_at
 returns-2 c =
-    let known = c.before.before in
-    let w = known.before.before in
-    c.of-kind.ensures
-    ∙ then_more {answer = field_at kind_field (text w) (at-line w)} (of_kind (text w))
-    (word_got (bytes "kind=") kind_words refl (text w) (at-line w) w.before.line-value.ensures w.kind-word.ensures known.w.given.1)
+    let known = c in
+    let w = known in
+    c.of_kind.ensures
+    ∙ then_more {answer = field_at kind_field (text (c.before.before)) (at-line (c.before.before))} (of_kind (text (c.before.before)))
+    (word_got (bytes "kind=") kind_words refl (text (c.before.before)) (at-line (c.before.before)) w.line_value-value.ensures w.kind_word-w.ensures known.in-Index.is)
 
-pub resource-at-spec : {M : Type 1} → statement M
-resource-at-spec =
+pub resource_at_spec : {M : Type 1} → statement M
+resource_at_spec =
     tie.close
     (tie.spec
-    slice-aggregate-line-value
     line-value-requires
     kind-word-requires
     enum-known-w
     enum_told
-    slice-aggregate-value-fault
     value-fault-requires
     returns
     add-of-kind

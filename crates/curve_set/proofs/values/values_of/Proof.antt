@@ -4,6 +4,7 @@ use borrow.Author.Rules.{sfits_of}
 use Prim.Native.Nat.{◌+◌, ◌*◌, ◌-◌, ◌≤◌, ◌<◌}
 use mathlib.Core.List.{◌∷◌, ◌++◌, append-nil}
 use mathlib.Core.Path.{◌≡◌, refl, sym, ap₂, ◌∙◌}
+use borrow.Author.Rules.{rules}
 use lib.ListN.{length, take, drop, length-map, length-set, drop_of_length-le}
 use lib.Seq.{take_all}
 use lib.IntN.{ℤ}
@@ -22,7 +23,7 @@ abbrev decreases-loop : tie.decreases-loop-i
 decreases-loop curves voll floor values₀ i₀ values i = 24 - i
 
 long : (c : tie.Start invariant-loop decreases-loop) → length c.args.curves.pairs ≡ 24
-long c = simp length-map at c.well_formed.0.1.1.1.1.0.1.0.1
+long c = search rules
 
 array-set-from-values : tie.Need-bounds-values-0 invariant-loop decreases-loop
 array-set-from-values c = omega arith

@@ -6,22 +6,22 @@ use Rattle.curve_text.proofs.Lengths.{curves_length_refused, curves_length_told}
 use Rattle.curve_text.proofs.length.curves_length.Statement.{statement}
 use Rattle.curve_text.proofs.length.curves_length.Tie as tie
 
-curves-in-range-requires : tie.Need-curves-in-range-requires
+curves-in-range-requires : tie.Need-curves_in_range-requires
 curves-in-range-requires c κs = tt
 
-returns : tie.Need-returns
+returns : tie.Need-returns-then-not-curves_in_range
 returns c =
-    let tested = c.before in
-    sym (curves_length_refused tested.before.args.curves (sym tested.curves-in-range.ensures ∙ not-true tested.curves-in-range.result c.if1.true))
+    let tested = c in
+    sym (curves_length_refused tested.args.curves (sym tested.curves_in_range.ensures ∙ not-true tested.curves_in_range.result c.if-not-curves_in_range.true-raw))
 
-text-length-requires : tie.Need-text-length-requires
+text-length-requires : tie.Need-text_length-length-requires
 text-length-requires c κs = tt
 
-returns-2 : tie.Need-returns-2
+returns-2 : tie.Need-returns
 returns-2 c =
-    let tested = c.before.before in
-    ap written.Length c.text-length.ensures ∙
-    sym (curves_length_told tested.before.args.curves (sym tested.curves-in-range.ensures ∙ not-false tested.curves-in-range.result c.before.if1.false))
+    let tested = c in
+    ap written.Length c.text_length-length.ensures ∙
+    sym (curves_length_told tested.args.curves (sym tested.curves_in_range.ensures ∙ not-false tested.curves_in_range.result c.if-not-curves_in_range.false-raw))
 
-pub curves-length-spec : {M : Type 1} → statement M
-curves-length-spec = tie.close (tie.spec curves-in-range-requires returns text-length-requires returns-2)
+pub curves_length_spec : {M : Type 1} → statement M
+curves_length_spec = tie.close (tie.spec curves-in-range-requires returns text-length-requires returns-2)

@@ -4,17 +4,17 @@ use Rattle.integer.proofs.Signed.{at_most_taken, at_most_left}
 use Rattle.pricing_adder.proofs.reserve.higher.Statement.{statement}
 use Rattle.pricing_adder.proofs.reserve.higher.Tie as tie
 
-returns : tie.Need-returns
+returns : tie.Need-returns-then-x-y
 returns c =
-    let a = c.before.args in
-    let f = c.before.ranges in
-    rw (to_z-of_z f.y, max_ℤ_second (at_most_taken a.x a.y f.x f.y c.if1.true))
+    let a = c.args in
+    let f = c.ranges in
+    rw (to_z-of_z f.y, max_ℤ_second (at_most_taken a.x a.y f.x f.y c.if-x-y.true))
 
-returns-2 : tie.Need-returns-2
+returns-2 : tie.Need-returns-else-x-y
 returns-2 c =
-    let a = c.before.args in
-    let f = c.before.ranges in
-    rw (to_z-of_z f.x, max_ℤ_first (<ℤ_to_≤ℤ (at_most_left a.x a.y f.x f.y c.if1.false)))
+    let a = c.args in
+    let f = c.ranges in
+    rw (to_z-of_z f.x, max_ℤ_first (<ℤ_to_≤ℤ (at_most_left a.x a.y f.x f.y c.if-x-y.false)))
 
-pub higher-spec : {M : Type 1} → statement M
-higher-spec = tie.close (tie.spec returns returns-2)
+pub higher_spec : {M : Type 1} → statement M
+higher_spec = tie.close (tie.spec returns returns-2)

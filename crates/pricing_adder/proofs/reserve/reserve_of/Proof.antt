@@ -33,59 +33,59 @@ module _ (h : Header) (twice : ℤ) (b : HeaderBound h) (k : nat_abs twice ≤ 2
       )
 
 -- factor × twice, and 20000 × short
-share : (c : tie.After-struct-told) → let a = c.before.before.args in
+share : (c : tie.After-struct_told-1) → let a = c.args in
     to_z w64 (of_z w64 a.header.factor) *ℤ to_z w64 (of_z w64 a.twice) ≡ a.header.factor *ℤ a.twice
 share c =
-    let a = c.before.before.args in
-    rw (to_z-of_z {z = a.header.factor} (sfits_of c.struct_told.given.1.1.1.0.1), to_z-of_z c.before.before.ranges.twice)
+    let a = c.args in
+    rw (to_z-of_z {z = a.header.factor} (sfits_of c.struct_told-1.given.1.1.1.0.1), to_z-of_z c.ranges.twice)
 
-lost : (c : tie.After-struct-told2) → let h = c.before.before.before.before.args.header in
+lost : (c : tie.After-struct_told-2-1) → let h = c.args.header in
     pos 20000 *ℤ to_z w64 (of_z w64 h.short) ≡ pos 20000 *ℤ h.short
-lost c = let h = c.before.before.before.before.args.header in
-    rw (to_z-of_z {z = h.short} (sfits_of c.struct-told2.given.1.1.1.1.1.1.0.1))
+lost c = let h = c.args.header in
+    rw (to_z-of_z {z = h.short} (sfits_of c.struct_told-2-1.given.1.1.1.1.1.1.0.1))
 
 bound : (c : tie.Start) → HeaderBound c.args.header
 bound c = header_bound c.args.header c.requires.0
 
-mul-floor-div : tie.Need-overflow-mul-floor-div
+mul-floor-div : tie.Need-overflow_mul-header
 mul-floor-div c =
-    let start = c.before.before in
-    rw (share c) (share-fits start.args.header start.args.twice (bound start) start.requires.1)
+    let start = c in
+    rw (share c) (share-fits start.args.header start.args.twice (bound (c.before.before)) start.requires.1)
 
-mul-floor-div-2 : tie.Need-overflow-mul-floor-div-2
+mul-floor-div-2 : tie.Need-overflow_mul-header-2
 mul-floor-div-2 c =
-    let start = c.before.before.before.before in
-    rw (lost c) (short-fits start.args.header start.args.twice (bound start) start.requires.1)
+    let start = c in
+    rw (lost c) (short-fits start.args.header start.args.twice (bound (c.before.before.before.before)) start.requires.1)
 
 -- what the floor is taken of
-rest : (c : tie.After-struct-told2) → let a = c.before.before.before.before.args in
+rest : (c : tie.After-struct_told-2-1) → let a = c.args in
     to_z w64 (of_z w64 (to_z w64 (of_z w64 a.header.factor) *ℤ to_z w64 (of_z w64 a.twice))) -ℤ to_z w64 (of_z w64 (pos 20000 *ℤ to_z w64 (of_z w64 a.header.short)))
     ≡ a.header.factor *ℤ a.twice -ℤ pos 20000 *ℤ a.header.short
 rest c =
-    let start = c.before.before.before.before in
+    let start = c in
     let h = start.args.header in
     let twice = start.args.twice in
     rw (
-      share c.before.before,
-      to_z-of_z (share-fits h twice (bound start) start.requires.1),
+      share (c.before.before),
+      to_z-of_z (share-fits h twice (bound (c.before.before.before.before)) start.requires.1),
       lost c,
-      to_z-of_z (short-fits h twice (bound start) start.requires.1),
+      to_z-of_z (short-fits h twice (bound (c.before.before.before.before)) start.requires.1),
     )
 
-sub-floor-div : tie.Need-overflow-sub-floor-div
+sub-floor-div : tie.Need-overflow_sub-header
 sub-floor-div c =
-    let start = c.before.before.before.before in
-    rw (rest c) (rest-fits start.args.header start.args.twice (bound start) start.requires.1)
+    let start = c in
+    rw (rest c) (rest-fits start.args.header start.args.twice (bound (c.before.before.before.before)) start.requires.1)
 
-floor-div-requires : tie.Need-floor-div-requires
+floor-div-requires : tie.Need-floor_div-requires
 floor-div-requires c κs = tt
 
 returns : tie.Need-returns
 unfolding discounted
 returns c =
-    let start = c.before.before.before.before.before in
-    to_z-of_z (sfits_of c.floor-div.type-inv) ∙ c.floor-div.ensures
-    ∙ rw (rest c.before, to_z-of_z (rest-fits start.args.header start.args.twice (bound start) start.requires.1))
+    let start = c in
+    to_z-of_z {w = w64} (sfits_of c.floor_div.type_inv) ∙ c.floor_div.ensures
+    ∙ rw (rest (c.before), to_z-of_z (rest-fits start.args.header start.args.twice (bound (c.before.before.before.before.before)) start.requires.1))
 
-pub reserve-of-spec : {M : Type 1} → statement M
-reserve-of-spec = tie.close (tie.spec mul-floor-div mul-floor-div-2 sub-floor-div floor-div-requires returns)
+pub reserve_of_spec : {M : Type 1} → statement M
+reserve_of_spec = tie.close (tie.spec mul-floor-div mul-floor-div-2 sub-floor-div floor-div-requires returns)

@@ -45,65 +45,65 @@ steps s b =
 fitting : (c : tie.Start) → Steps c.args.sums
 fitting c = steps c.args.sums (sums_bound c.args.sums c.requires)
 
-units : (c : tie.After-struct-told) → let s = c.before.before.args.sums in
+units : (c : tie.After-struct_told-1) → let s = c.args.sums in
     to_z w64 (of_z w64 s.generation) +ℤ to_z w64 (of_z w64 s.controllable) ≡ s.generation +ℤ s.controllable
-units c = let s = c.before.before.args.sums in
-    rw (to_z-of_z {z = s.generation} (sfits_of c.struct_told.given.0.1), to_z-of_z {z = s.controllable} (sfits_of c.struct_told.given.1.0.1))
+units c = let s = c.args.sums in
+    rw (to_z-of_z {z = s.generation} (sfits_of c.struct_told-1.given.0.1), to_z-of_z {z = s.controllable} (sfits_of c.struct_told-1.given.1.0.1))
 
 -- the net less LPC, kept at zero or above
-net : (c : tie.After-higher) → to_z w64 (of_z w64 c.higher.result) ≡ max_ℤ c.before.before.before.before.args.sums.validated (pos 0)
-net c = to_z-of_z (sfits_of c.higher.type-inv) ∙ rw (to_z-of_z (sfits_of c.before.struct-told2.given.1.1.1.0.1)) at c.higher.ensures
+net : (c : tie.After-higher-net) → to_z w64 (of_z w64 c.higher-net.result) ≡ max_ℤ c.args.sums.validated (pos 0)
+net c = to_z-of_z {w = w64} (sfits_of c.higher-net.type_inv) ∙ rw (to_z-of_z (sfits_of c.struct_told-2-1.given.1.1.1.0.1)) at c.higher-net.ensures
 
 -- the RRS of all other loads
-rrs : (c : tie.After-struct-told3) → let s = c.before.before.before.before.before.before.args.sums in
+rrs : (c : tie.After-struct_told-3-1) → let s = c.args.sums in
     to_z w64 (of_z w64 s.responsive) ≡ s.responsive
-rrs c = to_z-of_z (sfits_of c.struct-told3.given.1.1.1.1.0.1)
+rrs c = to_z-of_z {w = w64} (sfits_of c.struct_told-3-1.given.1.1.1.1.0.1)
 
-add-units : tie.Need-overflow-add-units
-add-units c = rw (units c) (fitting c.before.before).units
+add-units : tie.Need-overflow_add-units
+add-units c = rw (units c) (fitting (c.before.before)).units
 
-mul-units : tie.Need-overflow-mul-units
-mul-units c = let s = fitting c.before.before in rw (units c, to_z-of_z s.units) s.twice
+mul-units : tie.Need-overflow_mul-units
+mul-units c = let s = fitting (c.before.before) in rw (units c, to_z-of_z s.units) s.twice
 
-higher-requires : tie.Need-higher-requires
+higher-requires : tie.Need-higher-net-requires
 higher-requires c κs = tt
 
-mul-net : tie.Need-overflow-mul-net
-mul-net c = rw (net c) (fitting c.before.before.before.before).net
+mul-net : tie.Need-overflow_mul-net
+mul-net c = rw (net c) (fitting (c.before.before.before.before)).net
 
-mul-cap : tie.Need-overflow-mul-cap
-mul-cap c = rw (rrs c) (fitting c.before.before.before.before.before.before).cap
+mul-cap : tie.Need-overflow_mul-cap
+mul-cap c = rw (rrs c) (fitting (c.before.before.before.before.before.before)).cap
 
-add-result : tie.Need-overflow-add-result
+add-result : tie.Need-overflow_add-result
 add-result c =
-    let after = c.before.before.before in
-    let s = fitting after.before.before.before.before in
-    rw (units after.before.before, to_z-of_z s.units, to_z-of_z s.twice, net after, to_z-of_z s.net) s.with-net
+    let after = c in
+    let s = fitting (c.before.before.before.before.before.before.before) in
+    rw (units (c.before.before.before.before.before), to_z-of_z s.units, to_z-of_z s.twice, net (c.before.before.before), to_z-of_z s.net) s.with-net
 
-add-result-2 : tie.Need-overflow-add-result-2
+add-result-2 : tie.Need-overflow_add-result-else-net-cap
 add-result-2 c =
-    let after = c.before.before.before in
-    let s = fitting after.before.before.before.before in
-    rw (units after.before.before, to_z-of_z s.units, to_z-of_z s.twice, rrs c.before, to_z-of_z s.cap) s.with-cap
+    let after = c in
+    let s = fitting (c.before.before.before.before.before.before.before) in
+    rw (units (c.before.before.before.before.before), to_z-of_z s.units, to_z-of_z s.twice, rrs (c.before), to_z-of_z s.cap) s.with-cap
 
-returns : tie.Need-returns
+returns : tie.Need-returns-then-net-cap
 unfolding twice_online twice_loads
 returns c =
-    let told = c.before in
-    let after = told.before.before in
-    let s = fitting after.before.before.before.before in
-    rw (units after.before.before, to_z-of_z s.units, to_z-of_z s.twice, net after, to_z-of_z s.net, to_z-of_z s.with-net)
-    (rw (min_ℤ_first (rw (net after, rrs told) at (at_most_taken _ _ (mul-net after) (mul-cap told) c.if1.true))))
+    let told = c in
+    let after = told in
+    let s = fitting (c.before.before.before.before.before.before.before) in
+    rw (units (c.before.before.before.before.before), to_z-of_z s.units, to_z-of_z s.twice, net (c.before.before.before), to_z-of_z s.net, to_z-of_z s.with-net)
+    (rw (min_ℤ_first (rw (net (c.before.before.before), rrs (c.before)) at (at_most_taken _ _ (mul-net after) (mul-cap told) c.if-net-cap.true))))
 
-returns-2 : tie.Need-returns-2
+returns-2 : tie.Need-returns-else-net-cap
 unfolding twice_online twice_loads
 returns-2 c =
-    let told = c.before in
-    let after = told.before.before in
-    let s = fitting after.before.before.before.before in
-    rw (units after.before.before, to_z-of_z s.units, to_z-of_z s.twice, rrs told, to_z-of_z s.cap, to_z-of_z s.with-cap)
-    (rw (min_ℤ_second (<ℤ_to_≤ℤ (rw (net after, rrs told) at (at_most_left _ _ (mul-net after) (mul-cap told) c.if1.false)))))
+    let told = c in
+    let after = told in
+    let s = fitting (c.before.before.before.before.before.before.before) in
+    rw (units (c.before.before.before.before.before), to_z-of_z s.units, to_z-of_z s.twice, rrs (c.before), to_z-of_z s.cap, to_z-of_z s.with-cap)
+    (rw (min_ℤ_second (<ℤ_to_≤ℤ (rw (net (c.before.before.before), rrs (c.before)) at (at_most_left _ _ (mul-net after) (mul-cap told) c.if-net-cap.false)))))
 
-pub twice-online-spec : {M : Type 1} → statement M
-twice-online-spec =
+pub twice_online_spec : {M : Type 1} → statement M
+twice_online_spec =
     tie.close (tie.spec add-units mul-units higher-requires mul-net mul-cap add-result add-result-2 returns returns-2)

@@ -12,63 +12,59 @@ use Rattle.pricing_resource_text.proofs.Marking.{marked_unmarked, made_read}
 use Rattle.pricing_resource_text.proofs.kinds.controllable_at.Statement.{statement}
 use Rattle.pricing_resource_text.proofs.kinds.controllable_at.Tie as tie
 
-slice-aggregate-read-lines : tie.Need-slice-aggregate-read-lines
-slice-aggregate-read-lines c = refl
-
-slice-aggregate-read-lines-2 : tie.Need-slice-aggregate-read-lines-2
+slice-aggregate-read-lines-2 : tie.Need-slice_bounds-read_lines-end-2
 slice-aggregate-read-lines-2 c = refl
 
-slice-aggregate-read-lines-3 : tie.Need-slice-aggregate-read-lines-3
+slice-aggregate-read-lines-3 : tie.Need-slice_bounds-read_lines-end-3
 slice-aggregate-read-lines-3 c = refl
 
-slice-aggregate-read-lines-4 : tie.Need-slice-aggregate-read-lines-4
+slice-aggregate-read-lines-4 : tie.Need-slice_bounds-read_lines-end-4
 slice-aggregate-read-lines-4 c = refl
 
-read-lines-requires : tie.Need-read-lines-requires
+read-lines-requires : tie.Need-read_lines-b-requires
 read-lines-requires c κs = tt
 
-enum-known-b : tie.Need-enum-known-b
-enum-known-b c = c.match.keys1
+enum-known-b : tie.Need-enum_known-b
+enum-known-b c = c.in-Read-1.keys1
 
-enum_told : tie.Need-enum-told
-enum_told c = c.match.keys2
+enum_told : tie.Need-enum_told-1
+enum_told c = c.in_default-1.keys2
 
-marked-controllable-requires : tie.Need-marked-controllable-requires
+marked-controllable-requires : tie.Need-marked_controllable-requires
 marked-controllable-requires c κs = tt
 
-returns : tie.Need-returns
-returns c = c.marked-controllable.ensures
+returns : tie.Need-returns-in_default
+returns c = c.marked_controllable.ensures
 
 -- the lines were read as numbers alone, by the fields of the kind
-abbrev begun : tie.After-read-lines → tie.Start
-begun c = c.before.before.before.before.before.before
+abbrev begun : tie.After-read_lines-b → tie.Start
+begun c = c.before.before.before.before.before.before.before
 
 unmarked :
-    (c : tie.After-read-lines) {next : ℕ} → c.read-lines.result ≡ lines.Read next →
-    MarksRead controllable_fields (begun c).args.text.now (begun c).args.at c.read-lines.new.1.1.1.1.1.0 (marked-lines.Read 0 next)
-unmarked c told = rw controllable_is at (marked_unmarked 4 controllable_few c.read-lines.ensures told)
+    (c : tie.After-read_lines-b) {next : ℕ} → c.read_lines-b.result ≡ lines.Read next →
+    MarksRead controllable_fields (begun c).args.text.now (begun c).args.at c.read_lines-b.new.1.1.1.1.1.0 (marked-lines.Read 0 next)
+unmarked c told = rw controllable_is at (marked_unmarked 4 controllable_few c.read_lines-b.ensures told)
 
-slice-aggregate-controllable-of : tie.Need-slice-aggregate-controllable-of
+slice-aggregate-controllable-of : tie.Need-slice_bounds-controllable_of-end
 slice-aggregate-controllable-of c = omega arith
 
-controllable-of-requires : tie.Need-controllable-of-requires
+controllable-of-requires : tie.Need-controllable_of-requires
 controllable-of-requires c κs =
-    let known = c.before.before in
-    let read = known.before.before.before in
-    let told = (unmarked read known.b.given.1).taken _ _ refl in
-    (omega arith, rw told.1.1 (numbers_small controllable_fields controllable_small (begun read).args.text.now (begun read).args.at))
+    let known = c in
+    let read = known in
+    let told = (unmarked (c.before.before.before) known.in-Read.is).taken _ _ refl in
+    (omega arith, rw told.1.1 (numbers_small controllable_fields controllable_small (begun (c.before.before.before)).args.text.now (begun (c.before.before.before)).args.at))
 
-returns-2 : tie.Need-returns-2
+returns-2 : tie.Need-returns
 returns-2 c =
-    let known = c.before.before.before in
-    let read = known.before.before.before in
-    made_read controllable_of (unmarked read known.b.given.1) refl c.controllable-of.ensures
+    let known = c in
+    let read = known in
+    made_read controllable_of (unmarked (c.before.before.before.before) known.in-Read.is) refl c.controllable_of.ensures
 
-pub controllable-at-spec : {M : Type 1} → statement M
-controllable-at-spec =
+pub controllable_at_spec : {M : Type 1} → statement M
+controllable_at_spec =
     tie.close
     (tie.spec
-    slice-aggregate-read-lines
     slice-aggregate-read-lines-2
     slice-aggregate-read-lines-3
     slice-aggregate-read-lines-4

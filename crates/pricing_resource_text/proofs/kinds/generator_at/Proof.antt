@@ -15,69 +15,63 @@ use Rattle.pricing_resource_text.proofs.Lines.{then_refused, then_more}
 use Rattle.pricing_resource_text.proofs.kinds.generator_at.Statement.{statement}
 use Rattle.pricing_resource_text.proofs.kinds.generator_at.Tie as tie
 
-slice-aggregate-line-value : tie.Need-slice-aggregate-line-value
-slice-aggregate-line-value c = refl
-
-line-value-requires : tie.Need-line-value-requires
+line-value-requires : tie.Need-line_value-value-requires
 line-value-requires c κs = tt
 
-status-word-requires : tie.Need-status-word-requires
+status-word-requires : tie.Need-status_word-w-requires
 status-word-requires c κs = tt
 
-enum-known-w : tie.Need-enum-known-w
-enum-known-w c = c.match.keys1
+enum-known-w : tie.Need-enum_known-w
+enum-known-w c = c.in-Index-1.keys1
 
-enum_told : tie.Need-enum-told
-enum_told c = c.match.keys2
+enum_told : tie.Need-enum_told-1
+enum_told c = c.in_default-1.keys2
 
-slice-aggregate-value-fault : tie.Need-slice-aggregate-value-fault
-slice-aggregate-value-fault c = refl
-
-value-fault-requires : tie.Need-value-fault-requires
+value-fault-requires : tie.Need-value_fault-requires
 value-fault-requires c κs = tt
 
 -- the text and the position, seen from where the status's word is known
-abbrev text : tie.After-status-word → List ℕ
-text c = c.before.before.before.before.args.text.now
+abbrev text : tie.After-status_word-w → List ℕ
+text c = c.args.text.now
 
-abbrev at-line : tie.After-status-word → ℕ
-at-line c = c.before.before.before.before.args.at
+abbrev at-line : tie.After-status_word-w → ℕ
+at-line c = c.args.at
 
-abbrev kind : tie.After-status-word → Kind
-kind c = c.before.before.before.before.args.kind
+abbrev kind : tie.After-status_word-w → Kind
+kind c = c.args.kind
 
 -- after the status: the lines of its fields
 abbrev after-status : Kind → List ℕ → ℕ → ℕ → LineAnswer Resource
 after-status kind text status next = lines_as (with_marks (generator_of kind (status_of status))) generator_fields text next
 
-returns : tie.Need-returns
+returns : tie.Need-returns-in_default
 returns c =
-    let told = c.before.before in
-    let w = told.before.before in
-    then_refused {answer = field_at status_field (text w) (at-line w)} (after-status (kind w) (text w))
-    (rw c.value-fault.ensures
-    (word_refused (bytes "status=") status_words refl (text w) (at-line w) w.before.line-value.ensures w.status-word.ensures told.enum_told.given.1))
+    let told = c in
+    let w = told in
+    then_refused {answer = field_at status_field (text (c.before.before.before.before)) (at-line (c.before.before.before.before))} (after-status (kind (c.before.before.before.before)) (text (c.before.before.before.before)))
+    (rw c.value_fault.ensures
+    (word_refused (bytes "status=") status_words refl (text (c.before.before.before.before)) (at-line (c.before.before.before.before)) w.line_value-value.ensures w.status_word-w.ensures told.in_default.is))
 
 -- the next line starts within the text
-within : (c : tie.After-known-told) →
-    let w = c.before.before.before in next_at (at-line w) (bytes "status=") w.before.line-value.result.now ≤ length (text w)
+within : (c : tie.In-Index) →
+    let w = c in next_at (at-line (c.before)) (bytes "status=") w.line_value-value.result.now ≤ length (text (c.before))
 within c =
-    let w = c.before.before.before in
-    word_within (bytes "status=") status_words refl (text w) (at-line w) w.before.line-value.ensures w.status-word.ensures c.before.w.given.1
+    let w = c in
+    word_within (bytes "status=") status_words refl (text (c.before)) (at-line (c.before)) w.line_value-value.ensures w.status_word-w.ensures c.in-Index.is
 
-add-generator-lines : tie.Need-overflow-add-generator-lines
+add-generator-lines : tie.Need-overflow_add-at
 add-generator-lines c = omega (arith, within c)
 
-add-generator-lines-2 : tie.Need-overflow-add-generator-lines-2
+add-generator-lines-2 : tie.Need-overflow_add-at-2
 add-generator-lines-2 c = omega (arith, within c)
 
-add-generator-lines-3 : tie.Need-overflow-add-generator-lines-3
+add-generator-lines-3 : tie.Need-overflow_add-at-3
 add-generator-lines-3 c = omega (arith, within c)
 
-status-of-requires : tie.Need-status-of-requires
+status-of-requires : tie.Need-status_of-requires
 status-of-requires c κs = tt
 
-generator-lines-requires : tie.Need-generator-lines-requires
+generator-lines-requires : tie.Need-generator_lines-requires
 generator-lines-requires c κs = tt
 
 read-on :
@@ -86,24 +80,22 @@ read-on :
     answer ≡ lines_as (with_marks (generator_of kind status)) generator_fields text next → answer ≡ generator_at kind text at
 read-on kind text at read is given = rw (given, is) (then_more (after-status kind text) read)
 
-returns-2 : tie.Need-returns-2
+returns-2 : tie.Need-returns
 returns-2 c =
-    let known = c.before.before.before in
-    let w = known.before.before in
-    read-on (kind w) (text w) (at-line w)
-    (word_got (bytes "status=") status_words refl (text w) (at-line w) w.before.line-value.ensures w.status-word.ensures known.w.given.1)
-    c.before.status-of.ensures c.generator-lines.ensures
+    let known = c in
+    let w = known in
+    read-on (kind (c.before.before.before)) (text (c.before.before.before)) (at-line (c.before.before.before))
+    (word_got (bytes "status=") status_words refl (text (c.before.before.before)) (at-line (c.before.before.before)) w.line_value-value.ensures w.status_word-w.ensures known.in-Index.is)
+    c.status_of.ensures c.generator_lines.ensures
 
-pub generator-at-spec : {M : Type 1} → statement M
-generator-at-spec =
+pub generator_at_spec : {M : Type 1} → statement M
+generator_at_spec =
     tie.close
     (tie.spec
-    slice-aggregate-line-value
     line-value-requires
     status-word-requires
     enum-known-w
     enum_told
-    slice-aggregate-value-fault
     value-fault-requires
     returns
     add-generator-lines

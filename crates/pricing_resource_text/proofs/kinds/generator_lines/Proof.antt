@@ -12,64 +12,60 @@ use Rattle.pricing_resource_text.proofs.Marking.{marked_unmarked, made_read}
 use Rattle.pricing_resource_text.proofs.kinds.generator_lines.Statement.{statement}
 use Rattle.pricing_resource_text.proofs.kinds.generator_lines.Tie as tie
 
-slice-aggregate-read-lines : tie.Need-slice-aggregate-read-lines
-slice-aggregate-read-lines c = refl
-
-slice-aggregate-read-lines-2 : tie.Need-slice-aggregate-read-lines-2
+slice-aggregate-read-lines-2 : tie.Need-slice_bounds-read_lines-end-2
 slice-aggregate-read-lines-2 c = refl
 
-slice-aggregate-read-lines-3 : tie.Need-slice-aggregate-read-lines-3
+slice-aggregate-read-lines-3 : tie.Need-slice_bounds-read_lines-end-3
 slice-aggregate-read-lines-3 c = refl
 
-slice-aggregate-read-lines-4 : tie.Need-slice-aggregate-read-lines-4
+slice-aggregate-read-lines-4 : tie.Need-slice_bounds-read_lines-end-4
 slice-aggregate-read-lines-4 c = refl
 
-read-lines-requires : tie.Need-read-lines-requires
+read-lines-requires : tie.Need-read_lines-b-requires
 read-lines-requires c κs = tt
 
-enum-known-b : tie.Need-enum-known-b
-enum-known-b c = c.match.keys1
+enum-known-b : tie.Need-enum_known-b
+enum-known-b c = c.in-Read-1.keys1
 
-enum_told : tie.Need-enum-told
-enum_told c = c.match.keys2
+enum_told : tie.Need-enum_told-1
+enum_told c = c.in_default-1.keys2
 
-marked-generator-requires : tie.Need-marked-generator-requires
+marked-generator-requires : tie.Need-marked_generator-requires
 marked-generator-requires c κs = tt
 
-returns : tie.Need-returns
-returns c = c.marked-generator.ensures
+returns : tie.Need-returns-in_default
+returns c = c.marked_generator.ensures
 
 -- the lines were read as numbers alone, by the fields of the kind
-abbrev begun : tie.After-read-lines → tie.Start
-begun c = c.before.before.before.before.before.before
+abbrev begun : tie.After-read_lines-b → tie.Start
+begun c = c.before.before.before.before.before.before.before
 
 unmarked :
-    (c : tie.After-read-lines) {next : ℕ} → c.read-lines.result ≡ lines.Read next →
-    MarksRead generator_fields (begun c).args.text.now (begun c).args.at c.read-lines.new.1.1.1.1.1.0 (marked-lines.Read 0 next)
-unmarked c told = rw generator_is at (marked_unmarked 5 generator_few c.read-lines.ensures told)
+    (c : tie.After-read_lines-b) {next : ℕ} → c.read_lines-b.result ≡ lines.Read next →
+    MarksRead generator_fields (begun c).args.text.now (begun c).args.at c.read_lines-b.new.1.1.1.1.1.0 (marked-lines.Read 0 next)
+unmarked c told = rw generator_is at (marked_unmarked 5 generator_few c.read_lines-b.ensures told)
 
-slice-aggregate-generator-of : tie.Need-slice-aggregate-generator-of
+slice-aggregate-generator-of : tie.Need-slice_bounds-generator_of-end
 slice-aggregate-generator-of c = omega arith
 
-generator-of-requires : tie.Need-generator-of-requires
+generator-of-requires : tie.Need-generator_of-requires
 generator-of-requires c κs =
-    let known = c.before.before in
-    let read = known.before.before.before in
-    let told = (unmarked read known.b.given.1).taken _ _ refl in
-    (omega arith, rw told.1.1 (numbers_small generator_fields generator_small (begun read).args.text.now (begun read).args.at))
+    let known = c in
+    let read = known in
+    let told = (unmarked (c.before.before.before) known.in-Read.is).taken _ _ refl in
+    (omega arith, rw told.1.1 (numbers_small generator_fields generator_small (begun (c.before.before.before)).args.text.now (begun (c.before.before.before)).args.at))
 
-returns-2 : tie.Need-returns-2
+returns-2 : tie.Need-returns
 returns-2 c =
-    let known = c.before.before.before in
-    let read = known.before.before.before in
-    let a = (begun read).args in
-    made_read (generator_of a.kind a.status) (unmarked read known.b.given.1) refl c.generator-of.ensures
+    let known = c in
+    let read = known in
+    let a = (begun (c.before.before.before.before)).args in
+    made_read (generator_of a.kind a.status) (unmarked (c.before.before.before.before) known.in-Read.is) refl c.generator_of.ensures
 
-pub generator-lines-spec : {M : Type 1} → statement M
-generator-lines-spec =
+pub generator_lines_spec : {M : Type 1} → statement M
+generator_lines_spec =
     tie.close
     (tie.spec
-    slice-aggregate-read-lines
     slice-aggregate-read-lines-2
     slice-aggregate-read-lines-3
     slice-aggregate-read-lines-4

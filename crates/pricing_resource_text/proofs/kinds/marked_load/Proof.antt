@@ -8,58 +8,54 @@ use Rattle.pricing_resource_text.proofs.Marking.{made_read, made_refused}
 use Rattle.pricing_resource_text.proofs.kinds.marked_load.Statement.{statement}
 use Rattle.pricing_resource_text.proofs.kinds.marked_load.Tie as tie
 
-slice-aggregate-marked-lines : tie.Need-slice-aggregate-marked-lines
-slice-aggregate-marked-lines c = refl
-
-slice-aggregate-marked-lines-2 : tie.Need-slice-aggregate-marked-lines-2
+slice-aggregate-marked-lines-2 : tie.Need-slice_bounds-marked_lines-end-2
 slice-aggregate-marked-lines-2 c = refl
 
-slice-aggregate-marked-lines-3 : tie.Need-slice-aggregate-marked-lines-3
+slice-aggregate-marked-lines-3 : tie.Need-slice_bounds-marked_lines-end-3
 slice-aggregate-marked-lines-3 c = refl
 
-slice-aggregate-marked-lines-4 : tie.Need-slice-aggregate-marked-lines-4
+slice-aggregate-marked-lines-4 : tie.Need-slice_bounds-marked_lines-end-4
 slice-aggregate-marked-lines-4 c = refl
 
-marked-lines-requires : tie.Need-marked-lines-requires
+marked-lines-requires : tie.Need-marked_lines-b-requires
 marked-lines-requires c κs = load_few
 
-enum-known-b : tie.Need-enum-known-b
-enum-known-b c = c.match.keys1
+enum-known-b : tie.Need-enum_known-b
+enum-known-b c = c.in-Refused-1.keys1
 
-enum-known-b-2 : tie.Need-enum-known-b-2
-enum-known-b-2 c = c.match.keys2
+enum-known-b-2 : tie.Need-enum_known-b-in-Read-1
+enum-known-b-2 c = c.in-Read-1.keys2
 
 -- the lines were read by the fields of the kind
-abbrev begun : tie.After-marked-lines → tie.Start
-begun c = c.before.before.before.before.before.before
+abbrev begun : tie.After-marked_lines-b → tie.Start
+begun c = c.before.before.before.before.before.before.before
 
-lines : (c : tie.After-marked-lines) → MarksRead load_fields (begun c).args.text.now (begun c).args.at c.marked-lines.new.1.1.1.1.1.1.0 c.marked-lines.result
-lines c = rw load_is at c.marked-lines.ensures
+lines : (c : tie.After-marked_lines-b) → MarksRead load_fields (begun c).args.text.now (begun c).args.at c.marked_lines-b.new.lines.1.1.1.1.1.0 c.marked_lines-b.result
+lines c = rw load_is at c.marked_lines-b.ensures
 
-slice-aggregate-load-of : tie.Need-slice-aggregate-load-of
+slice-aggregate-load-of : tie.Need-slice_bounds-load_of-end
 slice-aggregate-load-of c = omega arith
 
-load-of-requires : tie.Need-load-of-requires
+load-of-requires : tie.Need-load_of-requires
 load-of-requires c κs =
-    let read = c.before.before.before.before.before in
-    let told = (lines read).taken _ _ c.before.before.b2.given.1 in
-    (omega arith, rw told.1.1 (numbers_small load_fields load_small (begun read).args.text.now (begun read).args.at))
+    let read = c in
+    let told = (lines (c.before.before.before)).taken _ _ c.in-Read.is in
+    (omega arith, rw told.1.1 (numbers_small load_fields load_small (begun (c.before.before.before)).args.text.now (begun (c.before.before.before)).args.at))
 
-returns : tie.Need-returns
+returns : tie.Need-returns-in-Refused
 returns c =
-    let read = c.before.before.before.before in
-    made_refused load_of (lines read) c.before.b.given.1
+    let read = c in
+    made_refused load_of (lines (c.before.before)) c.in-Refused.is
 
-returns-2 : tie.Need-returns-2
+returns-2 : tie.Need-returns-in-Read
 returns-2 c =
-    let read = c.before.before.before.before.before.before in
-    made_read load_of (lines read) c.before.before.before.b2.given.1 c.load_of.ensures
+    let read = c in
+    made_read load_of (lines (c.before.before.before.before)) c.in-Read.is c.load_of.ensures
 
-pub marked-load-spec : {M : Type 1} → statement M
-marked-load-spec =
+pub marked_load_spec : {M : Type 1} → statement M
+marked_load_spec =
     tie.close
     (tie.spec
-    slice-aggregate-marked-lines
     slice-aggregate-marked-lines-2
     slice-aggregate-marked-lines-3
     slice-aggregate-marked-lines-4

@@ -103,7 +103,7 @@ returns-2 : tie.Need-returns-then-room-line invariant-loop decreases-loop
 returns-2 c =
     let n = c in
     let s = c in
-    sym (lt-leb (length (text s)) s.args.room (omega (arith, c.if-room-line.true, (turn (c.before)).loop-i.invariant.1, longer (c.before), marked_within (passed (c.before)).0)))
+    sym (lt-leb (length (text (c.before.before.before.before.before.before.before.before))) s.args.room (omega (arith, c.if-room-line.true, (turn (c.before)).loop-i.invariant.1, longer (c.before), marked_within (passed (c.before)).0)))
 
 add-i : tie.Need-overflow_add-i invariant-loop decreases-loop
 add-i c = omega arith
