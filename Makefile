@@ -19,7 +19,10 @@ BUILD := $(CURDIR)/target/staticlib
 ARCHIVE := $(BUILD)/libordc.a
 SHARED := $(BUILD)/libordc.so
 WARNINGS := -std=c11 -Wall -Wextra -Werror
-SOURCES := crates.txt $(shell find crates -name '*.rt' -o -name '*.antt')
+SOURCES := crates.txt $(shell find crates -name out -prune -o \( -name '*.rt' -o -name '*.antt' \) -print)
+# The programs, and where they stand once they are built.
+PROGRAMS := curves price page
+PLACE := $(CURDIR)/target/bin
 # The second implementation, where cargo puts it.
 COMPILED := $(or $(CARGO_TARGET_DIR),$(CURDIR)/reference/target)
 REFERENCE := $(COMPILED)/release/reference
@@ -30,7 +33,9 @@ REFERENCE := $(COMPILED)/release/reference
 lib: $(ARCHIVE) $(SHARED)
 
 $(ARCHIVE): $(SOURCES)
-	rt staticlib ordc
+	@mkdir -p $(BUILD)
+	cd crates/ordc_c && rt lib
+	install -m 644 crates/ordc_c/out/libordc_c.a $@
 
 # the same code as the archive's, which is position independent
 $(SHARED): $(ARCHIVE)
@@ -77,12 +82,17 @@ stack: $(BUILD)/stack
 reference:
 	cd reference && cargo build --offline --release --quiet --target-dir $(COMPILED)
 
-built-programs:
-	@mkdir -p target
-	rt check curves price page > target/built-programs.log || { cat target/built-programs.log; exit 1; }
+# each proved, built, and run on its stored input
+built-programs: $(PROGRAMS:%=$(PLACE)/%)
+
+$(PLACE)/%: $(SOURCES)
+	@mkdir -p $(PLACE)
+	cd crates/$* && rt run < stdin > $@.stdout 2> $@.log || { cat $@.log; exit 1; }
+	cmp $@.stdout crates/$*/stdout
+	install crates/$*/out/$* $@
 
 programs: reference built-programs
-	$(PYTHON) tests/programs.py target/bin $(REFERENCE)
+	$(PYTHON) tests/programs.py $(PLACE) $(REFERENCE)
 
 wrong-mains: reference built-programs
 	$(PYTHON) tests/wrong_mains.py $(CURDIR) $(REFERENCE)
