@@ -11,34 +11,40 @@ mod write;
 
 use case::number_case;
 use cases::all_cases;
-use libc::STDIN_FILENO;
+use std::alloc::Global;
+use std::io;
+use std::io::{Read, Write};
 use write::write_into;
 
-// The readers' cases: those of the standard input.
-fn reads() {
-    let mut cases = io::buffer();
-    let count = io::read_full(STDIN_FILENO, &mut cases);
-    all_cases(&cases[..count]);
+// The cases are the first so many bytes of the standard input.
+const MOST_BYTES: u64 = 4096;
+
+// The readers' cases: those of an input.
+fn reads(alloc: Global, input: impl Read + Drop, out: &mut impl Write) -> io::Result<()> {
+    let mut cases = Vec::new(alloc);
+    input.take(MOST_BYTES).read_to_end(&mut cases)?;
+    all_cases(out, &cases)
 }
 
 // A line of 1 MiB, all digits but for its key and its end.
 fn long_line() -> [u8; 1048576] {
-    [49; 1048576]
+    [b'1'; 1048576]
 }
 
-fn long_number() {
+fn long_number(out: &mut impl Write) -> io::Result<()> {
     let mut text = long_line();
-    text[0] = 120;
-    text[1] = 61;
-    text[1048575] = 10;
-    number_case(&text, 0, -20, 99);
+    text[0] = b'x';
+    text[1] = b'=';
+    text[1048575] = b'\n';
+    number_case(out, &text, 0, -20, 99)
 }
 
-fn main() {
-    reads();
-    write_into(23);
-    write_into(26);
-    write_into(22);
-    write_into(0);
-    long_number();
+fn main(rt: HostRuntime) -> io::Result<()> {
+    let mut out = rt.stdout();
+    reads(rt.alloc(), rt.stdin(), &mut out)?;
+    write_into(&mut out, 23)?;
+    write_into(&mut out, 26)?;
+    write_into(&mut out, 22)?;
+    write_into(&mut out, 0)?;
+    long_number(&mut out)
 }

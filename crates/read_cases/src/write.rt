@@ -1,29 +1,23 @@
 // The cases of the writer: lines by a schema, written into buffers of full stops.
-use crate::show::{show, show_byte, show_count};
+use std::io;
+use std::io::Write;
 use text_writer::{Written, write_lines};
 
-fn show_written(written: Written) {
-    match written {
-        Written::Ended { next } => {
-            show(b"written=");
-            show_count(next);
-            show_byte(b'\n');
-        }
-        Written::Short => show(b"refused=14 line=0\n"),
-    }
-}
-
-fn write_case(buffer: &mut [u8]) {
+fn write_case(out: &mut impl Write, buffer: &mut [u8]) -> io::Result<()> {
     let values = [7i64, 14, -3];
-    show_written(write_lines(buffer, 0, b"month=hour=tie=", &values));
-    show(buffer);
-    show_byte(b'\n');
+    match write_lines(buffer, 0, b"month=hour=tie=", &values) {
+        Written::Ended { next } => writeln!(out, "written={next}")?,
+        Written::Short => writeln!(out, "refused=14 line=0")?,
+    }
+    out.write_all(buffer)?;
+    writeln!(out)
 }
 
 // A buffer of at most 26 bytes.
-pub(crate) fn write_into(length: usize) {
-    let mut buffer = [46u8; 26];
+pub(crate) fn write_into(out: &mut impl Write, length: usize) -> io::Result<()> {
+    let mut buffer = [b'.'; 26];
     if length <= 26 {
-        write_case(&mut buffer[..length]);
+        write_case(out, &mut buffer[..length])?;
     }
+    Ok(())
 }
