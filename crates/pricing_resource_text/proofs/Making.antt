@@ -4,7 +4,7 @@ use mathlib.Core.Path.{◌≡◌, ◌∙◌}
 use lib.IntN.{ℤ}
 use lib.Signed.{mag}
 use mir.Facts.{to_z-of_z}
-use mir.Syntax.{w64, w32}
+use mir.Syntax.{w32}
 use mir.Val.{hbits, to_z, of_z}
 use borrow.Author.Rules.{sfits_of}
 use Rattle.pricing_resource.specs.declared.Kind.{Kind}
@@ -13,7 +13,7 @@ use Rattle.pricing_resource.specs.declared.Resource.TheVariants as resource
 
 -- a number that a call returned, as the machine reads it back
 pub number_is : {r z : ℤ} → mag r < 2 ^ hbits w32 → r ≡ z → to_z w32 (of_z w32 r) ≡ z
-number_is fits is = to_z-of_z {w = w64} (sfits_of fits) ∙ is
+number_is fits is = to_z-of_z {w = w32} (sfits_of fits) ∙ is
 
 pub generator_same :
     (kind : Kind) (status : Status) (marks : ℕ) {net lsl hsl base nonspin cold30 net' lsl' hsl' base' nonspin' cold30' : ℤ} → net ≡ net' → lsl ≡ lsl' → hsl ≡ hsl' → base ≡ base' → nonspin ≡ nonspin' → cold30 ≡ cold30' →

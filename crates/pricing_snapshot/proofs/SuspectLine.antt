@@ -19,7 +19,7 @@ use Rattle.pricing_resource.specs.Suspect.{resource_line_count, suspect_place, s
 use Rattle.pricing_resource.specs.declared.Kind.{Kind}
 use Rattle.pricing_resource.specs.declared.Kind.TheVariants as kind
 use Rattle.pricing_resource.specs.declared.Resource.{Resource}
-use Rattle.pricing_resource_text.specs.Resource.{kind_field, status_field, generator_fields, controllable_fields, load_fields, of_lines, lines_as, generator_at, of_kind, resource_at}
+use Rattle.pricing_resource_text.specs.Resource.{kind_field, status_field, generator_fields, controllable_fields, load_fields, of_lines, lines_as, generator_at, of_kind, resource_at, with_marks, generator_of, status_of}
 use Rattle.pricing_resource_text.proofs.Readings.{followed, resource_followed}
 use Rattle.pricing_snapshot.specs.Snapshot.{header_fields, header_of, Entry, resources_at, resources_of, Contents, due_lines}
 use Rattle.pricing_snapshot.proofs.Entries.{no_entries, first_entry, lines_due}
@@ -65,7 +65,7 @@ module _ (text : List ℕ) where
   generator_onward k at {one} {next} h e =
       let f = followed (field_at status_field text at) _ e in
       let first = field_onward status_field at f.given in
-      let others = lines_onward _ generator_fields f.after first.within f.then in
+      let others = lines_onward (with_marks (generator_of k (status_of f.one))) generator_fields f.after first.within f.then in
       record { bytes_read = omega (arith, first.bytes_read, others.bytes_read); within = others.within }
 
   lines_after : {A B : Type 0} (make : List B → A) (fields : List (Field B)) (at : ℕ) {one : A} {next : ℕ} → at ≤ length text → lines_as make fields text at ≡ got one next → Onward text 0 at next

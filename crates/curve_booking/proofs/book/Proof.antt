@@ -27,7 +27,7 @@ is-possible c = sym c.record_possible.ensures ∙ not-false c.record_possible.re
 
 returns : tie.Need-returns-then-not-record_possible
 unfolding booked
-returns c = rw (impossible (c.before)) c.auto.ensures
+returns c = rw (impossible (c.before)) c.kept.ensures
 
 read-hour-requires : tie.Need-read_hour-h-requires
 read-hour-requires c κs = tt
@@ -38,14 +38,10 @@ enum-known-h c = c.in-Refused-1.keys1
 enum-known-h-2 : tie.Need-enum_known-h-in-Error-1
 enum-known-h-2 c = c.in-Error-1.keys2
 
--- the hour's group and error
-told : (c : tie.In-Error-2) → error_answer (hour_in c.args.text.now) ≡ read-hour.Error c.in-Error-2.group c.in-Error-2.error
-told c = sym c.read_hour-h.ensures ∙ c.in-Error-2.is
-
 book-error-requires : tie.Need-book_error-requires
 book-error-requires c κs =
     let h = c in
-    (is-possible (c.before.before), error_group_below h.args.text.now h.in-Error.group h.in-Error.error (told h))
+    (is-possible (c.before.before), error_group_below h.args.text.now h.in-Error.group h.in-Error.error (sym c.read_hour-h.ensures ∙ c.in-Error.is))
 
 returns-2 : tie.Need-returns-in-Refused
 returns-2 c =
@@ -60,7 +56,7 @@ returns-3 c =
     let s = h in
     let fits : SFits w64 h.in-Error.error = sfits_of c.in-Error.known_told-in-Error-1-own.given.1.0.1 in
     (rw (to_z-of_z fits) at c.book_error.ensures)
-    ∙ sym (answer_error s.args.history s.args.text.now h.in-Error.group h.in-Error.error (is-possible (c.before.before.before)) (told h))
+    ∙ sym (answer_error s.args.history s.args.text.now h.in-Error.group h.in-Error.error (is-possible (c.before.before.before)) (sym c.read_hour-h.ensures ∙ c.in-Error.is))
 
 pub book_spec : {M : Type 1} → statement M
 book_spec =

@@ -42,7 +42,7 @@ room c = rw (held (c.before.before.before)) at c.if-g-ge1000.false
 returns : tie.Need-returns-then-g-ge1000
 returns c =
     let s = c in
-    c.auto.ensures ∙ sym (error_full s.args.history s.args.group s.args.e (full (c.before)))
+    c.kept.ensures ∙ sym (error_full s.args.history s.args.group s.args.e (full (c.before)))
 
 magnitude-requires : tie.Need-magnitude-requires
 magnitude-requires c κs = tt
@@ -70,7 +70,7 @@ with-error-requires : tie.Need-with_error-requires
 with-error-requires c κs =
     let s = start (c.before) in
     rw (held (c.before.before.before.before.before), to_z-of_z s.ranges.e)
-    (bounds_small (at-hand (c.before.before.before.before.before)) (possible_is (at-hand (c.before.before.before.before.before)) (possible_at s.args.history s.pre.0 s.args.group s.pre.1)).small, near c)
+    (bounds_small (at-hand (c.before.before.before.before.before)) (possible_is (at-hand (c.before.before.before.before.before)) (possible_at s.args.history s.requires.0 s.args.group s.requires.1)).small, near c)
 
 mul-t6 : tie.Need-offset_bounds-changed-group-2
 mul-t6 c = group_byte (start (c.before.before)).requires.1

@@ -7,46 +7,46 @@ use Rattle.curve_page.proofs.PageCases.{impossible_refused, impossible_stays, sh
 use Rattle.curve_page.proofs.write_page.Statement.{statement}
 use Rattle.curve_page.proofs.write_page.Tie as tie
 
-curves-in-range-requires : tie.Need-curves-in-range-requires
+curves-in-range-requires : tie.Need-curves_in_range-requires
 curves-in-range-requires c κs = tt
 
-returns : tie.Need-returns
+returns : tie.Need-returns-then-not-curves_in_range
 returns c =
-    let s = c.before.before.before in
-    let out = sym c.before.curves-in-range.ensures ∙ not-true c.before.curves-in-range.result c.if1.true in
+    let s = c in
+    let out = sym c.curves_in_range.ensures ∙ not-true c.curves_in_range.result c.if-not-curves_in_range.true-raw in
     record {
       ends = sym (impossible_refused s.args.curves s.args.buffer.now out);
       bytes = sym (impossible_stays s.args.curves s.args.buffer.now out);
     }
 
-possible : (c : tie.Else1) → curves_in_range c.before.before.before.args.curves ≡ true
-possible c = sym c.before.curves-in-range.ensures ∙ not-false c.before.curves-in-range.result c.if1.false
+possible : (c : tie.Else-not-curves_in_range) → curves_in_range c.args.curves ≡ true
+possible c = sym c.curves_in_range.ensures ∙ not-false c.curves_in_range.result c.if-not-curves_in_range.false-raw
 
-returns-2 : tie.Need-returns-2
+returns-2 : tie.Need-returns-then-buffer-lt1728
 returns-2 c =
-    let s = c.before.before.before.before in
+    let s = c in
     record {
-      ends = sym (short_refused s.args.curves s.args.buffer.now (possible c.before) c.if2.true);
-      bytes = sym (short_stays s.args.curves s.args.buffer.now (possible c.before) c.if2.true);
+      ends = sym (short_refused s.args.curves s.args.buffer.now (possible (c.before)) c.if-buffer-lt1728.true);
+      bytes = sym (short_stays s.args.curves s.args.buffer.now (possible (c.before)) c.if-buffer-lt1728.true);
     }
 
-put-rows-requires : tie.Need-put-rows-requires
-put-rows-requires c κs = (possible c.before.before, c.before.if2.false)
+put-rows-requires : tie.Need-put_rows-requires
+put-rows-requires c κs = (possible (c.before.before), c.if-buffer-lt1728.false)
 
-same_length : tie.Need-same-length
-same_length c = c.before.before.put-rows.auto.0
+same_length : tie.Need-shape_of-buffer
+same_length c = c.put_rows.auto.buffer
 
-returns-3 : tie.Need-returns-3
+returns-3 : tie.Need-returns
 returns-3 c =
-    let p = c.before.before in
-    let tested = p.before.before in
-    let s = tested.before.before.before.before in
+    let p = c in
+    let tested = p in
+    let s = tested in
     record {
-      ends = sym (page_written s.args.curves s.args.buffer.now (possible tested.before) tested.if2.false);
-      bytes = p.put-rows.ensures ∙ sym (page_laid s.args.curves s.args.buffer.now (possible tested.before) tested.if2.false);
+      ends = sym (page_written s.args.curves s.args.buffer.now (possible (c.before.before.before.before.before)) tested.if-buffer-lt1728.false);
+      bytes = p.put_rows.ensures ∙ sym (page_laid s.args.curves s.args.buffer.now (possible (c.before.before.before.before.before)) tested.if-buffer-lt1728.false);
     }
 
-pub write-page-spec : {M : Type 1} → statement M
-write-page-spec =
+pub write_page_spec : {M : Type 1} → statement M
+write_page_spec =
     tie.close
     (tie.spec curves-in-range-requires returns returns-2 put-rows-requires same_length returns-3)

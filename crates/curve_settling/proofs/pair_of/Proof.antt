@@ -75,7 +75,7 @@ spread-is c =
 cast-t5 : tie.Need-overflow_cast-result
 cast-t5 c =
     let s = start (c.before) in
-    omega (arith, abs_fits, spread-is c, spread_bound s.args.g (group-is (c.before.before.before.before.before)) s.pre.1)
+    omega (arith, abs_fits, spread-is c, spread_bound s.args.g (group-is (c.before.before.before.before.before)) s.requires.1)
 
 returns : tie.Need-returns
 unfolding pair_of

@@ -151,14 +151,14 @@ loop-again c =
     let turn = turn-of (c.before.before.before) in
     let loop = turn.loop-i in
     let history = turn.args.history in
-    let inside = turn_within turn.loop-i-test.taken loop.invariant.1 in (
-      passed turn.loop-i-test.taken,
+    let inside = turn_within turn.loop-i-test.true loop.invariant.1 in (
+      passed turn.loop-i-test.true,
       length-set loop.pairs loop.i made.pair_of-pair.result ∙ loop.invariant.1,
       here (c.before.before.before.before.before.before.before) ∙ rw (
         le-ltb (at-hand (c.before.before.before.before.before.before.before)).count 2 (enough (c.before.before.before.before)),
         ne_eqb (spread_of (at-hand (c.before.before.before.before.before.before.before))) 0 (λ none. c.if-pair-eq0.false (spread-is (c.before.before.before) ∙ none)),
       ),
-      rw (pair_is (c.before.before.before)) (pairs-step history loop.pairs loop.i turn.loop-i-test.taken inside loop.invariant.3),
+      rw (pair_is (c.before.before.before)) (pairs-step history loop.pairs loop.i turn.loop-i-test.true inside loop.invariant.3),
     )
 
 returns-3 : tie.Need-returns invariant-loop decreases-loop

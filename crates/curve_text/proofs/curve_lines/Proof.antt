@@ -31,7 +31,7 @@ enum_told c = omega arith
 abbrev made : tie.After-read_lines-b → tie.After-bounds-highs
 made c = c.before.before.before.before.before.before
 
-read : (c : tie.After-read_lines-b) → CurveLinesRead (made c).args.text.now c.read_lines-b.new.read.1.1.1.1.0 c.read_lines-b.result
+read : (c : tie.After-read_lines-b) → CurveLinesRead (made c).args.text.now c.read_lines-b.new.out c.read_lines-b.result
 read c = curve_lines_read c.read_lines-b.ensures (made c).bounds-lows.ensures (made c).bounds-highs.ensures (omega arith)
 
 returns : tie.Need-returns-in_default

@@ -20,7 +20,7 @@ same_length : tie.Need-same-length
 same_length c = search rules
 
 all : (s : tie.Start) → length s.args.curves.pairs ≡ 24
-all s = simp length-map at s.well-formed.0.1.1.1.1.0.1.0.1
+all s = search rules
 
 returns : tie.Need-returns
 returns c =

@@ -1,4 +1,5 @@
 -- `curve_text::length::text_length` meets its contract: what is counted and the numbers that are left make up the whole.
+use borrow.Author.Rules.{rules}
 use native.Mathlib.Omega.{arith}
 use borrow.Author.Rules.{sfits_of}
 use Prim.Native.Nat.{◌+◌, ◌-◌, ◌*◌, ◌≤◌}
@@ -23,7 +24,7 @@ abbrev decreases-loop : tie.decreases-loop-i
 decreases-loop values length₀ i₀ length i = 50 - i
 
 long : (c : tie.Start invariant-loop decreases-loop) → length c.args.curves.pairs ≡ 24
-long c = simp length-map at c.well_formed.0.1.1.1.1.0.1.0.1
+long c = search rules
 
 values-of-requires : tie.Need-values_of-values-requires invariant-loop decreases-loop
 values-of-requires c κs = tt

@@ -1,4 +1,5 @@
 -- The invariant: the numbers so far, and then those of the groups that are left, are the numbers of the record.
+use borrow.Author.Rules.{rules}
 use Prim.Native.Nat.{◌+◌, ◌*◌, ◌-◌, ◌≤◌, ◌<◌}
 use native.Mathlib.Omega.{arith}
 use mathlib.Core.List.{◌++◌, append-nil}
@@ -22,7 +23,7 @@ abbrev decreases-loop : tie.decreases-loop
 decreases-loop history values₀ i₀ values i = 24 - i
 
 long : (c : tie.Start invariant-loop decreases-loop) → length c.args.t1.groups ≡ 24
-long c = simp length-map at c.well-formed.0.1.1.0.1.0.1
+long c = search rules
 
 abbrev at-hand : tie.In-loop invariant-loop decreases-loop → Group
 at-hand c = get_or c.before.before.args.t1.groups c.before.loop.i no_hours

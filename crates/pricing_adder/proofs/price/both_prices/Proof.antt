@@ -68,7 +68,7 @@ pis-is c =
     let floor = mean in
     let pair = floor in
     let a = pair.args in
-    online_same a.curves a.header a.sums c.online_probability-pis.ensures (rs-is (c.before.before)) (to_z-of_z (cast-floor floor) ∙ floor-read (c.before.before.before.before.before.before.before.before)) (to_z-of_z (cast-mean mean) ∙ mean-read (c.before.before.before.before.before.before)) (spread-is (c.before.before.before.before)) pair.pair_for-pair.ensures
+    online_same a.curves a.header a.sums c.online_probability-pis.ensures (rs-is (c.before.before)) (to_z-of_z (cast-floor (c.before.before.before.before.before.before.before.before)) ∙ floor-read (c.before.before.before.before.before.before.before.before)) (to_z-of_z (cast-mean (c.before.before.before.before.before.before)) ∙ mean-read (c.before.before.before.before.before.before)) (spread-is (c.before.before.before.before)) pair.pair_for-pair.ensures
 
 pins-is : (c : tie.After-offline_probability-pins) → let a = (begin (c.before.before.before.before.before)).args in
     c.offline_probability-pins.result ≡ shortage_offline a.curves a.header a.sums
@@ -79,7 +79,7 @@ pins-is c =
     let floor = mean in
     let pair = floor in
     let a = pair.args in
-    offline_same a.curves a.header a.sums c.offline_probability-pins.ensures (rsns-is (c.before.before)) (to_z-of_z (cast-floor floor) ∙ floor-read (c.before.before.before.before.before.before.before.before.before)) (to_z-of_z (cast-mean mean) ∙ mean-read (c.before.before.before.before.before.before.before)) (spread-is (c.before.before.before.before.before)) pair.pair_for-pair.ensures
+    offline_same a.curves a.header a.sums c.offline_probability-pins.ensures (rsns-is (c.before.before)) (to_z-of_z (cast-floor (c.before.before.before.before.before.before.before.before.before)) ∙ floor-read (c.before.before.before.before.before.before.before.before.before)) (to_z-of_z (cast-mean (c.before.before.before.before.before.before.before)) ∙ mean-read (c.before.before.before.before.before.before.before)) (spread-is (c.before.before.before.before.before)) pair.pair_for-pair.ensures
 
 pis-bound : (c : tie.After-online_probability-pis) → c.online_probability-pis.result ≤ 1000000000
 pis-bound c = rw (pis-is c) (shortage_online_bound _ _ _)
@@ -137,10 +137,10 @@ twice-online-requires c κs = (begin c).requires.1.0
 reserve-of-requires : tie.Need-reserve_of-rs-requires
 reserve-of-requires c κs =
     let start = begin (c.before) in
-    (start.pre.1.1, rw (twice-is c) (omega (arith, online_bound (sums_bound start.args.sums start.pre.1.0))))
+    (start.requires.1.1, rw (twice-is c) (omega (arith, online_bound (sums_bound start.args.sums start.requires.1.0))))
 
 total-reserve-requires : tie.Need-total_reserve-rsns-requires
-total-reserve-requires c κs = let start = begin (c.before.before) in (start.pre.1.1, start.pre.1.0)
+total-reserve-requires c κs = let start = begin (c.before.before) in (start.requires.1.1, start.requires.1.0)
 
 online-probability-requires : tie.Need-online_probability-pis-requires
 online-probability-requires c κs = tt
@@ -162,7 +162,7 @@ rounded-share-requires c κs = let pins = priced (c.before.before) in (v-bound c
 
 cast-t19 : tie.Need-overflow_cast-result-3
 cast-t19 c =
-    let asks = rounded-share-requires c.before tt in
+    let asks = rounded-share-requires (c.before) tt in
     price_fits _ _ asks.0 asks.1 c.rounded_share.ensures
 
 rounded-share-requires-2 : tie.Need-rounded_share-requires-2
@@ -170,17 +170,16 @@ rounded-share-requires-2 c κs = (v-bound (c.before), one_bound (pins-bound (pri
 
 cast-t21 : tie.Need-overflow_cast-result-4
 cast-t21 c =
-    let asks = rounded-share-requires-2 c.before tt in
+    let asks = rounded-share-requires-2 (c.before) tt in
     price_fits _ _ asks.0 asks.1 c.rounded_share-2.ensures
 
 returns : tie.Need-returns
 returns c =
-    let value = c in
-    let pins = priced (c.before.before.before.before) in
-    let pis = pins in
-    let rsns = pis in
-    let a = (begin rsns.before).args in
-    prices_same a.curves a.header a.sums (rs-is rsns.before) (rsns-is rsns) (pis-is pis) (pins-is (c.before.before.before.before.before.before.before.before)) (value-is (c.before.before)) c.rounded_share.ensures c.rounded_share-2.ensures
+    let pis = c.before.before.before.before.before.before.before.before.before in
+    let rsns = pis.before in
+    let rs = rsns.before in
+    let a = c.args in
+    prices_same a.curves a.header a.sums (rs-is rs) (rsns-is rsns) (pis-is pis) (pins-is (c.before.before.before.before.before.before.before.before)) (value-is (c.before.before)) c.rounded_share.ensures c.rounded_share-2.ensures
 
 pub both_prices_spec : {M : Type 1} → statement M
 both_prices_spec =

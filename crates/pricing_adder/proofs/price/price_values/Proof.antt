@@ -21,10 +21,10 @@ returns c =
     rw (
       to_z-of_z (sfits_of g.0.1),
       to_z-of_z (sfits_of g.1.0.1),
-      to_z-of_z (cast-t2 c.before),
-      to_z-of_z (cast-t3 c.before),
-      to_z-of_z (cast-t4 c.before),
-      to_z-of_z (cast-t5 c.before),
+      to_z-of_z (cast-t2 (c.before.before.before.before)),
+      to_z-of_z (cast-t3 (c.before.before.before)),
+      to_z-of_z (cast-t4 (c.before.before)),
+      to_z-of_z (cast-t5 (c.before)),
     )
 
 pub price_values_spec : {M : Type 1} → statement M

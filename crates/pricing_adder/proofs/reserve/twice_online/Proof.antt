@@ -93,7 +93,7 @@ returns c =
     let after = told in
     let s = fitting (c.before.before.before.before.before.before.before) in
     rw (units (c.before.before.before.before.before), to_z-of_z s.units, to_z-of_z s.twice, net (c.before.before.before), to_z-of_z s.net, to_z-of_z s.with-net)
-    (rw (min_ℤ_first (rw (net (c.before.before.before), rrs (c.before)) at (at_most_taken _ _ (mul-net after) (mul-cap told) c.if-net-cap.true))))
+    (rw (min_ℤ_first (rw (net (c.before.before.before), rrs (c.before)) at (at_most_taken _ _ (mul-net (c.before.before.before)) (mul-cap (c.before)) c.if-net-cap.true))))
 
 returns-2 : tie.Need-returns-else-net-cap
 unfolding twice_online twice_loads
@@ -102,7 +102,7 @@ returns-2 c =
     let after = told in
     let s = fitting (c.before.before.before.before.before.before.before) in
     rw (units (c.before.before.before.before.before), to_z-of_z s.units, to_z-of_z s.twice, rrs (c.before), to_z-of_z s.cap, to_z-of_z s.with-cap)
-    (rw (min_ℤ_second (<ℤ_to_≤ℤ (rw (net (c.before.before.before), rrs (c.before)) at (at_most_left _ _ (mul-net after) (mul-cap told) c.if-net-cap.false)))))
+    (rw (min_ℤ_second (<ℤ_to_≤ℤ (rw (net (c.before.before.before), rrs (c.before)) at (at_most_left _ _ (mul-net (c.before.before.before)) (mul-cap (c.before)) c.if-net-cap.false)))))
 
 pub twice_online_spec : {M : Type 1} → statement M
 twice_online_spec =

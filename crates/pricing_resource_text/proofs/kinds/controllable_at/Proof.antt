@@ -42,7 +42,7 @@ begun c = c.before.before.before.before.before.before.before
 
 unmarked :
     (c : tie.After-read_lines-b) {next : ℕ} → c.read_lines-b.result ≡ lines.Read next →
-    MarksRead controllable_fields (begun c).args.text.now (begun c).args.at c.read_lines-b.new.1.1.1.1.1.0 (marked-lines.Read 0 next)
+    MarksRead controllable_fields (begun c).args.text.now (begun c).args.at c.read_lines-b.new.out (marked-lines.Read 0 next)
 unmarked c told = rw controllable_is at (marked_unmarked 4 controllable_few c.read_lines-b.ensures told)
 
 slice-aggregate-controllable-of : tie.Need-slice_bounds-controllable_of-end

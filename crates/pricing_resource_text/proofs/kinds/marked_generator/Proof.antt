@@ -30,7 +30,7 @@ enum-known-b-2 c = c.in-Read-1.keys2
 abbrev begun : tie.After-marked_lines-b → tie.Start
 begun c = c.before.before.before.before.before.before.before
 
-lines : (c : tie.After-marked_lines-b) → MarksRead generator_fields (begun c).args.text.now (begun c).args.at c.marked_lines-b.new.1.1.1.1.1.1.0 c.marked_lines-b.result
+lines : (c : tie.After-marked_lines-b) → MarksRead generator_fields (begun c).args.text.now (begun c).args.at c.marked_lines-b.new.out c.marked_lines-b.result
 lines c = rw generator_is at c.marked_lines-b.ensures
 
 slice-aggregate-generator-of : tie.Need-slice_bounds-generator_of-end

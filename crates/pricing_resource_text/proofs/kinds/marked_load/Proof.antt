@@ -30,7 +30,7 @@ enum-known-b-2 c = c.in-Read-1.keys2
 abbrev begun : tie.After-marked_lines-b → tie.Start
 begun c = c.before.before.before.before.before.before.before
 
-lines : (c : tie.After-marked_lines-b) → MarksRead load_fields (begun c).args.text.now (begun c).args.at c.marked_lines-b.new.lines.1.1.1.1.1.0 c.marked_lines-b.result
+lines : (c : tie.After-marked_lines-b) → MarksRead load_fields (begun c).args.text.now (begun c).args.at c.marked_lines-b.new.out c.marked_lines-b.result
 lines c = rw load_is at c.marked_lines-b.ensures
 
 slice-aggregate-load-of : tie.Need-slice_bounds-load_of-end

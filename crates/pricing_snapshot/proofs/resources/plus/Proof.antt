@@ -32,51 +32,51 @@ module _ (a b : ℤ) (a-fits : SFits w64 a) (b-fits : SFits w64 b) (fits : SFits
   gives : to_z w64 (of_z w64 (to_z w64 (of_z w64 a) +ℤ to_z w64 (of_z w64 b))) ≡ a +ℤ b
   gives = rw (to_z-of_z a-fits, to_z-of_z b-fits, to_z-of_z fits)
 
-add-t3 : tie.Need-overflow-add-t3
+add-t3 : tie.Need-overflow_add-result
 add-t3 c =
-    let start = c.before.before.before.before in
-    asks start.args.sums.generation start.args.part.generation (sfits_of c.before.before.struct_told.given.0.1)
-    (sfits_of c.struct-told2.given.0.1) (fit start).generation
+    let start = c in
+    asks start.args.sums.generation start.args.part.generation (sfits_of c.struct_told-1.given.0.1)
+    (sfits_of c.struct_told-2-1.given.0.1) (fit (c.before.before.before.before)).generation
 
-add-t4 : tie.Need-overflow-add-t4
+add-t4 : tie.Need-overflow_add-result-2
 add-t4 c =
-    let start = c.before.before.before.before.before.before.before.before in
-    asks start.args.sums.controllable start.args.part.controllable (sfits_of c.before.before.struct-told3.given.1.0.1)
-    (sfits_of c.struct-told4.given.1.0.1) (fit start).controllable
+    let start = c in
+    asks start.args.sums.controllable start.args.part.controllable (sfits_of c.struct_told-3-1.given.1.0.1)
+    (sfits_of c.struct_told-4-1.given.1.0.1) (fit (c.before.before.before.before.before.before.before.before)).controllable
 
-add-t5 : tie.Need-overflow-add-t5
+add-t5 : tie.Need-overflow_add-result-3
 add-t5 c =
-    let start = c.before.before.before.before.before.before.before.before.before.before.before.before in
-    asks start.args.sums.offline start.args.part.offline (sfits_of c.before.before.struct-told5.given.1.1.0.1)
-    (sfits_of c.struct-told6.given.1.1.0.1) (fit start).offline
+    let start = c in
+    asks start.args.sums.offline start.args.part.offline (sfits_of c.struct_told-5-1.given.1.1.0.1)
+    (sfits_of c.struct_told-6-1.given.1.1.0.1) (fit (c.before.before.before.before.before.before.before.before.before.before.before.before)).offline
 
-add-t6 : tie.Need-overflow-add-t6
+add-t6 : tie.Need-overflow_add-result-4
 add-t6 c =
-    let start = c.before.before.before.before.before.before.before.before.before.before.before.before.before.before.before.before in
-    asks start.args.sums.validated start.args.part.validated (sfits_of c.before.before.struct-told7.given.1.1.1.0.1)
-    (sfits_of c.struct-told8.given.1.1.1.0.1) (fit start).validated
+    let start = c in
+    asks start.args.sums.validated start.args.part.validated (sfits_of c.struct_told-7-1.given.1.1.1.0.1)
+    (sfits_of c.struct_told-8-1.given.1.1.1.0.1) (fit (c.before.before.before.before.before.before.before.before.before.before.before.before.before.before.before.before)).validated
 
-add-t7 : tie.Need-overflow-add-t7
+add-t7 : tie.Need-overflow_add-result-5
 add-t7 c =
-    let start = c.before.before.before.before.before.before.before.before.before.before.before.before.before.before.before.before.before.before.before.before in
-    asks start.args.sums.responsive start.args.part.responsive (sfits_of c.before.before.struct-told9.given.1.1.1.1.0.1)
-    (sfits_of c.struct-told10.given.1.1.1.1.0.1) (fit start).responsive
+    let start = c in
+    asks start.args.sums.responsive start.args.part.responsive (sfits_of c.struct_told-9-1.given.1.1.1.1.0.1)
+    (sfits_of c.struct_told-10-1.given.1.1.1.1.0.1) (fit (c.before.before.before.before.before.before.before.before.before.before.before.before.before.before.before.before.before.before.before.before)).responsive
 
 returns : tie.Need-returns
 returns c =
-    let start = c.before.before.before.before.before.before.before.before.before.before.before.before.before.before.before.before.before.before.before.before in
+    let start = c in
     let a = start.args.sums in
     let b = start.args.part in
-    let known = c.before.before.struct-told9.given in
-    let other = c.struct-told10.given in
+    let known = c.struct_told-9-1.given in
+    let other = c.struct_told-10-1.given in
     rw (
       plus_is a b,
-      gives a.generation b.generation (sfits_of known.0.1) (sfits_of other.0.1) (fit start).generation,
-      gives a.controllable b.controllable (sfits_of known.1.0.1) (sfits_of other.1.0.1) (fit start).controllable,
-      gives a.offline b.offline (sfits_of known.1.1.0.1) (sfits_of other.1.1.0.1) (fit start).offline,
-      gives a.validated b.validated (sfits_of known.1.1.1.0.1) (sfits_of other.1.1.1.0.1) (fit start).validated,
-      gives a.responsive b.responsive (sfits_of known.1.1.1.1.0.1) (sfits_of other.1.1.1.1.0.1) (fit start).responsive,
+      gives a.generation b.generation (sfits_of known.0.1) (sfits_of other.0.1) (fit (c.before.before.before.before.before.before.before.before.before.before.before.before.before.before.before.before.before.before.before.before)).generation,
+      gives a.controllable b.controllable (sfits_of known.1.0.1) (sfits_of other.1.0.1) (fit (c.before.before.before.before.before.before.before.before.before.before.before.before.before.before.before.before.before.before.before.before)).controllable,
+      gives a.offline b.offline (sfits_of known.1.1.0.1) (sfits_of other.1.1.0.1) (fit (c.before.before.before.before.before.before.before.before.before.before.before.before.before.before.before.before.before.before.before.before)).offline,
+      gives a.validated b.validated (sfits_of known.1.1.1.0.1) (sfits_of other.1.1.1.0.1) (fit (c.before.before.before.before.before.before.before.before.before.before.before.before.before.before.before.before.before.before.before.before)).validated,
+      gives a.responsive b.responsive (sfits_of known.1.1.1.1.0.1) (sfits_of other.1.1.1.1.0.1) (fit (c.before.before.before.before.before.before.before.before.before.before.before.before.before.before.before.before.before.before.before.before)).responsive,
     )
 
-pub plus-spec : {M : Type 1} → statement M
-plus-spec = tie.close (tie.spec add-t3 add-t4 add-t5 add-t6 add-t7 returns)
+pub plus_spec : {M : Type 1} → statement M
+plus_spec = tie.close (tie.spec add-t3 add-t4 add-t5 add-t6 add-t7 returns)

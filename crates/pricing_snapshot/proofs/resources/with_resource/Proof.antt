@@ -5,46 +5,45 @@ use Rattle.pricing_resource_text.proofs.Readings.{resource_read}
 use Rattle.pricing_snapshot.proofs.resources.with_resource.Statement.{statement}
 use Rattle.pricing_snapshot.proofs.resources.with_resource.Tie as tie
 
-enum-known-id : tie.Need-enum-known-id
-enum-known-id c = c.match.keys1
+enum-known-id : tie.Need-enum_known-id
+enum-known-id c = c.in-Refused-1.keys1
 
-returns : tie.Need-returns
-returns c value = rw c.before.id.given.1
+returns : tie.Need-returns-in-Refused
+returns c value = rw c.in-Refused.is
 
-enum-known-id-2 : tie.Need-enum-known-id-2
-enum-known-id-2 c = c.match.keys2
+enum-known-id-2 : tie.Need-enum_known-id-in-Next-1
+enum-known-id-2 c = c.in-Next-1.keys2
 
-resource-at-requires : tie.Need-resource-at-requires
+resource-at-requires : tie.Need-resource_at-r-requires
 resource-at-requires c κs = tt
 
-enum-known-r : tie.Need-enum-known-r
-enum-known-r c = c.match2.keys1
+enum-known-r : tie.Need-enum_known-r
+enum-known-r c = c.in-Refused-r-1.keys1
 
-returns-2 : tie.Need-returns-2
+returns-2 : tie.Need-returns-in-Refused-r
 returns-2 c value =
-    let read = c.before.before.before in
-    rw (read.before.before.id2.given.1, ← read.resource-at.ensures, c.before.r.given.1)
+    let read = c in
+    rw (read.in-Next.is, ← read.resource_at-r.ensures, c.in-Refused-r.is)
 
-enum-known-r-2 : tie.Need-enum-known-r-2
-enum-known-r-2 c = c.match2.keys2
+enum-known-r-2 : tie.Need-enum_known-r-in-Read-1
+enum-known-r-2 c = c.in-Read-1.keys2
 
-tally-with-requires : tie.Need-tally-with-requires
+tally-with-requires : tie.Need-tally_with-requires
 tally-with-requires c κs =
-    let told = c.before.r2.given in
-    let at-resource = c.before.before.before in
-    let id = at-resource.before.before in
-    let start = id.before.before.before in
-    let read = sym at-resource.resource-at.ensures ∙ ap lines_answer told.1 in
-    (start.requires.0, (part-within told.0.0 (resource_read start.args.text.now id.id2.given.0.0 read), start.requires.1))
+    let at-resource = c in
+    let id = at-resource in
+    let start = id in
+    let read = sym at-resource.resource_at-r.ensures ∙ ap lines_answer c.in-Read.is in
+    (start.requires.0, (part-within c.in-Read.resource (resource_read start.args.text.now id.in-Next.after read), start.requires.1))
 
-returns-3 : tie.Need-returns-3
+returns-3 : tie.Need-returns-in-Read
 returns-3 c value =
-    let told = c.before.before in
-    let at-resource = told.before.before in
-    rw (at-resource.before.before.id2.given.1, ← at-resource.resource-at.ensures, told.r2.given.1, c.tally-with.ensures)
+    let told = c in
+    let at-resource = told in
+    rw (at-resource.in-Next.is, ← at-resource.resource_at-r.ensures, told.in-Read.is, c.tally_with.ensures)
 
-pub with-resource-spec : {M : Type 1} → statement M
-with-resource-spec =
+pub with_resource_spec : {M : Type 1} → statement M
+with_resource_spec =
     tie.close
     (tie.spec
     enum-known-id
