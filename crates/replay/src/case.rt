@@ -1,25 +1,27 @@
 // A case: its text, and an operation on it.
-use crate::input::read_count;
+use crate::input::{read_count, read_full};
 use crate::operation::operate;
-use crate::output::show;
+use std::io;
+use std::io::{Read, Write};
 
 // The byte that follows in the file, laid everywhere.
-fn fill(fd: i32, rest: &mut [u8]) {
-    let byte = read_count(fd, 255) as u8;
-    let mut i: usize = 0;
-    while i < rest.len() {
-        rest[i] = byte;
-        i += 1;
-    }
+fn fill(input: &mut impl Read, rest: &mut [u8]) -> io::Result<()> {
+    let byte = read_count(input, 255)? as u8;
+    rest.fill(byte);
+    Ok(())
 }
 
 // The text starts with bytes of the one before, goes on with bytes of the file, and ends with one byte again and again.
-pub(crate) fn run_case(fd: i32, text: &mut [u8]) {
-    let end = read_count(fd, text.len());
-    let stop = read_count(fd, end);
-    let start = read_count(fd, stop);
-    io::read_full(fd, &mut text[start..stop]);
-    fill(fd, &mut text[stop..end]);
-    operate(fd, &mut text[0..end]);
-    show(b"\n");
+pub(crate) fn run_case(
+    input: &mut impl Read,
+    out: &mut impl Write,
+    text: &mut [u8],
+) -> io::Result<()> {
+    let end = read_count(input, text.len())?;
+    let stop = read_count(input, end)?;
+    let start = read_count(input, stop)?;
+    read_full(input, &mut text[start..stop])?;
+    fill(input, &mut text[stop..end])?;
+    operate(input, out, &mut text[..end])?;
+    writeln!(out)
 }

@@ -1,12 +1,12 @@
 // The operations on a snapshot held as values: a header of eight numbers, a row of 32 bytes for each id, and a row of nine numbers for each resource.
 use crate::input::{read_count, read_number};
-use crate::operation::checksum;
-use crate::output::{show, show_answer, show_count};
-use integer::magnitude;
+use crate::operation::{add, checksum};
+use crate::output::show_answer;
 use ordc::read_snapshot::ordc_read_snapshot;
-use ordc::reply::Reply;
 use ordc::snapshot_length::ordc_snapshot_length;
 use ordc::write_snapshot::ordc_write_snapshot;
+use std::io;
+use std::io::{Read, Write};
 
 // Space for one resource more than a snapshot can have.
 fn id_space() -> [u8; 131104] {
@@ -27,145 +27,162 @@ const MOST_EDITS: usize = 1000;
 
 // Each byte tells its place.
 fn lay_bytes(bytes: &mut [u8]) {
-    let mut i: usize = 0;
-    while i < bytes.len() {
-        bytes[i] = (i % 251) as u8;
-        i += 1;
+    for (i, byte) in bytes.iter_mut().enumerate() {
+        *byte = (i % 251) as u8;
     }
 }
 
 // Each number tells its place, from 7 on.
 fn lay_numbers(numbers: &mut [i64]) {
-    let mut i: usize = 0;
-    while i < numbers.len() {
-        numbers[i] = (i + 7) as i64;
-        i += 1;
+    for (i, number) in numbers.iter_mut().enumerate() {
+        *number = i as i64 + 7;
     }
-}
-
-// A checksum with one more value.
-fn add(sum: u64, value: u64) -> u64 {
-    (257 * (sum % 1000000007) + value % 1000000007 + 1) % 1000000007
 }
 
 // A checksum with one more number: its sign, then its size.
 fn add_number(sum: u64, z: i64) -> u64 {
-    if 0 <= z {
-        return add(add(sum, 0), magnitude(z));
-    }
-    add(add(sum, 1), magnitude(z))
+    add(add(sum, u64::from(z < 0)), z.unsigned_abs())
 }
 
 fn checksum_of_numbers(numbers: &[i64]) -> u64 {
     let mut sum: u64 = 0;
-    let mut i: usize = 0;
-    while i < numbers.len() {
-        sum = add_number(sum, numbers[i]);
-        i += 1;
+    for number in numbers {
+        sum = add_number(sum, *number);
     }
     sum
 }
 
-fn show_header(refusal: Reply, header: &[i64; 8]) {
-    show_answer(refusal, header);
-}
-
 // The text read into what is lent, all of which is shown on a refusal too.
-fn show_read(text: &[u8], ids: &mut [u8], numbers: &mut [i64]) {
+fn show_read(
+    out: &mut impl Write,
+    text: &[u8],
+    ids: &mut [u8],
+    numbers: &mut [i64],
+) -> io::Result<()> {
     lay_bytes(ids);
     lay_numbers(numbers);
     let mut header = [7i64; 8];
     let refusal = ordc_read_snapshot(text, &mut header, ids, numbers);
-    show_header(refusal, &header);
-    show_count(checksum(ids));
-    show_count(checksum_of_numbers(numbers));
+    show_answer(out, refusal, &header)?;
+    write!(out, " {} {}", checksum(ids), checksum_of_numbers(numbers))
 }
 
 // The text read into so many bytes and so many numbers.
-pub(crate) fn read_values(fd: i32, text: &[u8]) {
+pub(crate) fn read_values(
+    input: &mut impl Read,
+    out: &mut impl Write,
+    text: &[u8],
+) -> io::Result<()> {
     let mut ids = id_space();
     let mut numbers = number_space();
-    let id_bytes = read_count(fd, 131104);
-    let places = read_count(fd, 36873);
-    show_read(text, &mut ids[0..id_bytes], &mut numbers[0..places]);
+    let id_bytes = read_count(input, 131104)?;
+    let places = read_count(input, 36873)?;
+    show_read(out, text, &mut ids[..id_bytes], &mut numbers[..places])
 }
 
 // A place and a value; a place that there is not stays out of it.
-fn edit_numbers(fd: i32, numbers: &mut [i64]) {
-    let place = read_count(fd, numbers.len());
-    let value = read_number(fd);
+fn edit_numbers(input: &mut impl Read, numbers: &mut [i64]) -> io::Result<()> {
+    let place = read_count(input, numbers.len())?;
+    let value = read_number(input)?;
     if place < numbers.len() {
         numbers[place] = value;
     }
+    Ok(())
 }
 
-fn edit_header(fd: i32, header: &mut [i64; 8]) {
-    let place = read_count(fd, 7);
-    header[place] = read_number(fd);
+fn edit_header(input: &mut impl Read, header: &mut [i64; 8]) -> io::Result<()> {
+    let place = read_count(input, 7)?;
+    header[place] = read_number(input)?;
+    Ok(())
 }
 
-fn edit_ids(fd: i32, ids: &mut [u8]) {
-    let place = read_count(fd, ids.len());
-    let byte = read_count(fd, 255) as u8;
+fn edit_ids(input: &mut impl Read, ids: &mut [u8]) -> io::Result<()> {
+    let place = read_count(input, ids.len())?;
+    let byte = read_count(input, 255)? as u8;
     if place < ids.len() {
         ids[place] = byte;
     }
+    Ok(())
 }
 
 // An edit: its array, its place and its value.
-fn edit(fd: i32, header: &mut [i64; 8], ids: &mut [u8], numbers: &mut [i64]) {
-    let array = read_count(fd, 2);
-    match array {
-        0 => edit_header(fd, header),
-        1 => edit_ids(fd, ids),
-        _ => edit_numbers(fd, numbers),
+fn edit(
+    input: &mut impl Read,
+    header: &mut [i64; 8],
+    ids: &mut [u8],
+    numbers: &mut [i64],
+) -> io::Result<()> {
+    match read_count(input, 2)? {
+        0 => edit_header(input, header),
+        1 => edit_ids(input, ids),
+        _ => edit_numbers(input, numbers),
     }
 }
 
 // As many edits as the case says that it has.
-fn edit_values(fd: i32, header: &mut [i64; 8], ids: &mut [u8], numbers: &mut [i64]) {
-    let mut left = read_count(fd, MOST_EDITS);
-    while 0 < left {
-        edit(fd, header, ids, numbers);
-        left -= 1;
+fn edit_values(
+    input: &mut impl Read,
+    header: &mut [i64; 8],
+    ids: &mut [u8],
+    numbers: &mut [i64],
+) -> io::Result<()> {
+    let count = read_count(input, MOST_EDITS)?;
+    for _ in 0..count {
+        edit(input, header, ids, numbers)?;
     }
+    Ok(())
 }
 
 // The length of the values' text, then the text written into what is lent.
-fn show_written(header: &[i64; 8], ids: &[u8], numbers: &[i64], buffer: &mut [u8]) {
+fn show_written(
+    out: &mut impl Write,
+    header: &[i64; 8],
+    ids: &[u8],
+    numbers: &[i64],
+    buffer: &mut [u8],
+) -> io::Result<()> {
     let mut length: usize = 7;
     let asked = ordc_snapshot_length(header, ids, numbers, &mut length);
-    show_answer(asked, &[]);
-    show_count(length as u64);
-    show(b" ");
+    show_answer(out, asked, &[])?;
+    write!(out, " {length} ")?;
     lay_bytes(buffer);
     let mut written: usize = 7;
     let refusal = ordc_write_snapshot(header, ids, numbers, buffer, &mut written);
-    show_answer(refusal, &[]);
-    show_count(written as u64);
-    show_count(checksum(buffer));
+    show_answer(out, refusal, &[])?;
+    write!(out, " {written} {}", checksum(buffer))
 }
 
 // So many bytes and so many numbers of the values, written into a buffer of so many bytes.
-fn write_rows(fd: i32, header: &[i64; 8], ids: &[u8], numbers: &[i64]) {
-    let id_bytes = read_count(fd, ids.len());
-    let places = read_count(fd, numbers.len());
+fn write_rows(
+    input: &mut impl Read,
+    out: &mut impl Write,
+    header: &[i64; 8],
+    ids: &[u8],
+    numbers: &[i64],
+) -> io::Result<()> {
+    let id_bytes = read_count(input, ids.len())?;
+    let places = read_count(input, numbers.len())?;
     let mut buffer = buffer_space();
-    let size = read_count(fd, 524288);
+    let size = read_count(input, 524288)?;
     show_written(
+        out,
         header,
-        &ids[0..id_bytes],
-        &numbers[0..places],
-        &mut buffer[0..size],
-    );
+        &ids[..id_bytes],
+        &numbers[..places],
+        &mut buffer[..size],
+    )
 }
 
 // The values of the text, edited and written. Where the text is refused, each of them is 0 before the edits.
-pub(crate) fn write_values(fd: i32, text: &[u8]) {
+pub(crate) fn write_values(
+    input: &mut impl Read,
+    out: &mut impl Write,
+    text: &[u8],
+) -> io::Result<()> {
     let mut header = [0i64; 8];
     let mut ids = id_space();
     let mut numbers = number_space();
     ordc_read_snapshot(text, &mut header, &mut ids, &mut numbers);
-    edit_values(fd, &mut header, &mut ids, &mut numbers);
-    write_rows(fd, &header, &ids, &numbers);
+    edit_values(input, &mut header, &mut ids, &mut numbers)?;
+    write_rows(input, out, &header, &ids, &numbers)
 }

@@ -1,38 +1,40 @@
 // Numbers of the case file: 8 bytes each, the highest first, in two's complement.
-ghost use Rattle.std.specs.Prelude.{◌≤◌};
+ghost use Rattle.std.specs.Prelude.{◌≤◌, IfOk};
 
-use integer::magnitude;
+use std::io;
+use std::io::Read;
 
-fn wide(byte: u8) -> i64 {
-    byte as i64
+// Reads until the bytes are full or the file ends: those that the file does not have stay as they were.
+pub(crate) fn read_full(input: &mut impl Read, bytes: &mut [u8]) -> io::Result<()> {
+    let mut length: usize = 0;
+    while length < bytes.len() {
+        let count = input.read(&mut bytes[length..])?;
+        if count == 0 {
+            break;
+        }
+        length += count;
+    }
+    Ok(())
 }
 
-pub(crate) fn read_number(fd: i32) -> i64 {
+pub(crate) fn read_number(input: &mut impl Read) -> io::Result<i64> {
     let mut bytes = [0u8; 8];
-    io::read_full(fd, &mut bytes);
-    let mut value: i64 = 0;
-    let mut i: usize = 0;
-    while i < 8 {
-        value = value << 8 | wide(bytes[i]);
-        i += 1;
-    }
-    value
+    read_full(input, &mut bytes)?;
+    Ok(i64::from_be_bytes(bytes))
 }
 
 // A number that is not below zero, nor above some other.
-pub(crate) fn read_count(fd: i32, most: usize) -> usize
-    ensures { result ≤ most }
+pub(crate) fn read_count(input: &mut impl Read, most: usize) -> io::Result<usize>
+    ensures { IfOk result (λ count. count ≤ most) }
 {
-    let count = magnitude(read_number(fd)) as usize;
-    if count < most { count } else { most }
+    let count = read_number(input)?.unsigned_abs() as usize;
+    Ok(count.min(most))
 }
 
 // As many numbers as there is room for.
-pub(crate) fn read_numbers(fd: i32, values: &mut [i64]) {
-    let mut i: usize = 0;
-    while i < values.len() {
-        let value = read_number(fd);
-        values[i] = value;
-        i += 1;
+pub(crate) fn read_numbers(input: &mut impl Read, values: &mut [i64]) -> io::Result<()> {
+    for value in values.iter_mut() {
+        *value = read_number(input)?;
     }
+    Ok(())
 }

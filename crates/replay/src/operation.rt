@@ -1,170 +1,162 @@
 // The operations, each on the text and on the numbers that follow in the file, and what is written of their answers.
 use crate::held::{read_values, write_values};
 use crate::input::{read_count, read_number, read_numbers};
-use crate::output::{show, show_answer, show_count};
+use crate::output::show_answer;
 use ordc::book::ordc_book;
 use ordc::curves_length::ordc_curves_length;
 use ordc::price::ordc_price;
 use ordc::read_curves::ordc_read_curves;
-use ordc::reply::Reply;
 use ordc::settle::ordc_settle;
 use ordc::write_curves::ordc_write_curves;
 use ordc::write_page::ordc_write_page;
 use program_curves::input::feed;
 use program_curves::output::finish;
+use program_curves::start;
 use program_page::page_text;
 use program_price::price_text;
+use std::io;
+use std::io::{Read, Write};
 use text_line::piece::{part, piece_end};
 use text_writer::Written;
 
 // The arrays that an operation is lent are shown on a refusal too, where they have to stand as before.
-fn show_record(refusal: Reply, history: &[i64; 72]) {
-    show_answer(refusal, history);
-}
-
-fn book(fd: i32, text: &[u8]) {
+fn book(input: &mut impl Read, out: &mut impl Write, text: &[u8]) -> io::Result<()> {
     let mut history = [0i64; 72];
-    read_numbers(fd, &mut history);
+    read_numbers(input, &mut history)?;
     let refusal = ordc_book(&mut history, text);
-    show_record(refusal, &history);
+    show_answer(out, refusal, &history)
 }
 
-fn show_curves(refusal: Reply, curves: &[i64; 50]) {
-    show_answer(refusal, curves);
-}
-
-fn settle(fd: i32) {
+fn settle(input: &mut impl Read, out: &mut impl Write) -> io::Result<()> {
     let mut history = [0i64; 72];
-    read_numbers(fd, &mut history);
+    read_numbers(input, &mut history)?;
+    let voll = read_number(input)?;
+    let floor = read_number(input)?;
     let mut curves = [7i64; 50];
-    let refusal = ordc_settle(&history, read_number(fd), read_number(fd), &mut curves);
-    show_curves(refusal, &curves);
+    let refusal = ordc_settle(&history, voll, floor, &mut curves);
+    show_answer(out, refusal, &curves)
 }
 
-fn read(text: &[u8]) {
+fn read(out: &mut impl Write, text: &[u8]) -> io::Result<()> {
     let mut curves = [7i64; 50];
     let refusal = ordc_read_curves(text, &mut curves);
-    show_curves(refusal, &curves);
+    show_answer(out, refusal, &curves)
+}
+
+// A checksum with one more value.
+pub(crate) fn add(sum: u64, value: u64) -> u64 {
+    (257 * (sum % 1000000007) + value % 1000000007 + 1) % 1000000007
 }
 
 pub(crate) fn checksum(bytes: &[u8]) -> u64 {
     let mut sum: u64 = 0;
-    let mut i: usize = 0;
-    while i < bytes.len() {
-        sum = (257 * (sum % 1000000007) + bytes[i] as u64 + 1) % 1000000007;
-        i += 1;
+    for byte in bytes {
+        sum = add(sum, u64::from(*byte));
     }
     sum
 }
 
 // The length of a curve set's text, which is not written for it.
-fn curves_length(fd: i32) {
+fn curves_length(input: &mut impl Read, out: &mut impl Write) -> io::Result<()> {
     let mut curves = [0i64; 50];
-    read_numbers(fd, &mut curves);
+    read_numbers(input, &mut curves)?;
     let mut length: usize = 7;
     let refusal = ordc_curves_length(&curves, &mut length);
-    show_answer(refusal, &[]);
-    show_count(length as u64);
+    show_answer(out, refusal, &[])?;
+    write!(out, " {length}")
 }
 
 // The text is the buffer that is written to.
-fn write(fd: i32, text: &mut [u8]) {
+fn write(input: &mut impl Read, out: &mut impl Write, text: &mut [u8]) -> io::Result<()> {
     let mut curves = [0i64; 50];
-    read_numbers(fd, &mut curves);
+    read_numbers(input, &mut curves)?;
     let mut length: usize = 7;
     let refusal = ordc_write_curves(&curves, text, &mut length);
-    show_answer(refusal, &[]);
-    show_count(length as u64);
-    show_count(checksum(text));
+    show_answer(out, refusal, &[])?;
+    write!(out, " {length} {}", checksum(text))
 }
 
 // The text is the buffer that a page is written to. Every page has the same length, so that none is given back.
-fn write_page(fd: i32, text: &mut [u8]) {
+fn write_page(input: &mut impl Read, out: &mut impl Write, text: &mut [u8]) -> io::Result<()> {
     let mut curves = [0i64; 50];
-    read_numbers(fd, &mut curves);
+    read_numbers(input, &mut curves)?;
     let refusal = ordc_write_page(&curves, text);
-    show_answer(refusal, &[]);
-    show_count(checksum(text));
+    show_answer(out, refusal, &[])?;
+    write!(out, " {}", checksum(text))
 }
 
-fn show_prices(refusal: Reply, prices: &[i64; 6]) {
-    show_answer(refusal, prices);
-}
-
-fn price(fd: i32, text: &[u8]) {
+fn price(input: &mut impl Read, out: &mut impl Write, text: &[u8]) -> io::Result<()> {
     let mut curves = [0i64; 50];
-    read_numbers(fd, &mut curves);
+    read_numbers(input, &mut curves)?;
     let mut prices = [7i64; 6];
     let refusal = ordc_price(&curves, text, &mut prices);
-    show_prices(refusal, &prices);
+    show_answer(out, refusal, &prices)
 }
 
 // The lines that a program prints, a space for the end of each. Bytes that no line end follows are shown too, so that none is hidden.
-fn show_printed(output: &[u8]) {
+fn show_printed(out: &mut impl Write, output: &[u8]) -> io::Result<()> {
     let mut from: usize = 0;
     while from < output.len() {
-        let next = piece_end(output, from, 10);
+        let next = piece_end(output, from, b'\n');
         if next <= from {
-            show(part(output, from, output.len()));
-            return;
+            return out.write_all(part(output, from, output.len()));
         }
-        show(part(output, from, next - 1));
-        show(b" ");
+        out.write_all(part(output, from, next - 1))?;
+        out.write_all(b" ")?;
         from = next;
     }
+    Ok(())
 }
 
 // The program `price` on an input.
-fn run_price(input: &[u8]) {
+fn run_price(out: &mut impl Write, input: &[u8]) -> io::Result<()> {
     let mut output = [0u8; 768];
     let written = price_text(input, &mut output);
     let Written::Ended { next } = written else {
-        return;
+        return Ok(());
     };
-    show_printed(part(&output, 0, next));
+    show_printed(out, part(&output, 0, next))
 }
 
 // The program `page` on an input.
-fn run_page(input: &[u8]) {
+fn run_page(out: &mut impl Write, input: &[u8]) -> io::Result<()> {
     let mut output = [0u8; 1728];
     let written = page_text(input, &mut output);
     let Written::Ended { next } = written else {
-        return;
+        return Ok(());
     };
-    show_printed(part(&output, 0, next));
+    show_printed(out, part(&output, 0, next))
 }
 
-// So many bytes of the space that `curves` prints from.
-fn show_front(output: &[u8; 768], length: usize) {
-    show_printed(part(output, 0, length));
-}
-
-// The program `curves` on an input in two parts.
-fn run_curves(fd: i32, input: &[u8]) {
-    let first = read_count(fd, input.len());
-    let mut buffer = io::large_buffer();
-    let begun = feed(program_curves::start(), &mut buffer, part(input, 0, first));
-    let ended = feed(begun, &mut buffer, part(input, first, input.len()));
+// The program `curves` on a text in two parts.
+fn run_curves(input: &mut impl Read, out: &mut impl Write, text: &[u8]) -> io::Result<()> {
+    let first = read_count(input, text.len())?;
+    let mut buffer = [0u8; 65536];
+    let begun = feed(start(), &mut buffer, part(text, 0, first));
+    let ended = feed(begun, &mut buffer, part(text, first, text.len()));
     let mut output = [0u8; 768];
     let length = finish(ended, &buffer, &mut output);
-    show_front(&output, length);
+    show_printed(out, part(&output, 0, length))
 }
 
 // The operation whose number follows in the file.
-pub(crate) fn operate(fd: i32, text: &mut [u8]) {
-    let operation = read_count(fd, 11);
-    match operation {
-        0 => book(fd, text),
-        1 => settle(fd),
-        2 => read(text),
-        3 => write(fd, text),
-        4 => price(fd, text),
-        5 => run_price(text),
-        6 => run_curves(fd, text),
-        7 => write_page(fd, text),
-        8 => run_page(text),
-        9 => read_values(fd, text),
-        10 => write_values(fd, text),
-        _ => curves_length(fd),
+pub(crate) fn operate(
+    input: &mut impl Read,
+    out: &mut impl Write,
+    text: &mut [u8],
+) -> io::Result<()> {
+    match read_count(input, 11)? {
+        0 => book(input, out, text),
+        1 => settle(input, out),
+        2 => read(out, text),
+        3 => write(input, out, text),
+        4 => price(input, out, text),
+        5 => run_price(out, text),
+        6 => run_curves(input, out, text),
+        7 => write_page(input, out, text),
+        8 => run_page(out, text),
+        9 => read_values(input, out, text),
+        10 => write_values(input, out, text),
+        _ => curves_length(input, out),
     }
 }
