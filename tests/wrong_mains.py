@@ -12,6 +12,7 @@ import shutil
 import subprocess
 import sys
 import tempfile
+from concurrent.futures import ThreadPoolExecutor
 
 from runs import cases, differences
 
@@ -37,22 +38,19 @@ def apply(edit, folder):
         sys.exit(f"{edit}: it changes nothing")
 
 
-def build(repository, copy, edits):
-    """Proves and builds one wrong version of each program, all at a time, and gives the commands."""
-    for program, edit in edits:
-        shutil.rmtree(os.path.join(copy, "crates", program))
-        shutil.copytree(os.path.join(repository, "crates", program), os.path.join(copy, "crates", program))
-        apply(edit, os.path.join(copy, "crates", program))
-    done = subprocess.run(["rt", "check"] + [program for program, _ in edits], cwd=copy, stdout=subprocess.PIPE, stderr=subprocess.STDOUT, text=True)
+def build(repository, copy, program, edit):
+    """Proves and builds one wrong version of a program, which runs once on no input, and gives its command."""
+    crate = os.path.join(copy, "crates", program)
+    shutil.rmtree(crate)
+    shutil.copytree(os.path.join(repository, "crates", program), crate, ignore=shutil.ignore_patterns("out"))
+    apply(edit, crate)
+    done = subprocess.run(["rt", "run"], cwd=crate, stdin=subprocess.DEVNULL, stdout=subprocess.PIPE, stderr=subprocess.STDOUT, text=True)
     if done.returncode != 0:
         print(done.stdout, end="")
-        sys.exit("a wrong program is not built: " + ", ".join(edit for _, edit in edits))
-    commands = []
-    for program, edit in edits:
-        command = os.path.join(copy, f"{program}-{os.path.basename(edit)}")
-        os.rename(os.path.join(copy, "target", "bin", program), command)
-        commands.append(command)
-    return commands
+        sys.exit(f"a wrong program is not built: {edit}")
+    command = os.path.join(copy, f"{program}-{os.path.basename(edit)}")
+    os.rename(os.path.join(crate, "out", program), command)
+    return command
 
 
 def main():
@@ -64,11 +62,13 @@ def main():
     told = True
     with tempfile.TemporaryDirectory() as copy:
         shutil.copy(os.path.join(repository, "crates.txt"), copy)
-        for part in ("crates", "target/rlib", "target/stamp"):
-            shutil.copytree(os.path.join(repository, part), os.path.join(copy, part))
+        # What the crates below are built to comes along; what their checks kept does not.
+        shutil.copytree(os.path.join(repository, "crates"), os.path.join(copy, "crates"), ignore=shutil.ignore_patterns("incremental"))
         for together in itertools.zip_longest(*edits):
             together = [pair for pair in together if pair]
-            for (program, edit), command in zip(together, build(repository, copy, together)):
+            with ThreadPoolExecutor() as pool:
+                commands = list(pool.map(lambda pair: build(repository, copy, *pair), together))
+            for (program, edit), command in zip(together, commands):
                 name = f"{program}, {os.path.basename(edit)}"
                 case, written = next(differences(command, all_cases[program]), (None, None))
                 if case is None:
