@@ -19,7 +19,7 @@ use Rattle.pricing_resource.specs.Suspect.{resource_line_count, suspect_place, s
 use Rattle.pricing_resource.specs.declared.Kind.{Kind}
 use Rattle.pricing_resource.specs.declared.Kind.TheVariants as kind
 use Rattle.pricing_resource.specs.declared.Resource.{Resource}
-use Rattle.pricing_resource_text.specs.Resource.{kind_field, status_field, generator_fields, controllable_fields, load_fields, of_lines, lines_as, generator_at, of_kind, resource_at, with_marks, generator_of, status_of}
+use Rattle.pricing_resource_text.specs.Resource.{kind_field, status_field, generator_fields, controllable_fields, load_fields, of_lines, lines_as, generator_at, of_kind, resource_at, with_marks, generator_of, status_of, controllable_of, load_of}
 use Rattle.pricing_resource_text.proofs.Readings.{followed, resource_followed}
 use Rattle.pricing_snapshot.specs.Snapshot.{header_fields, header_of, Entry, resources_at, resources_of, Contents, due_lines}
 use Rattle.pricing_snapshot.proofs.Entries.{no_entries, first_entry, lines_due}
@@ -76,8 +76,8 @@ module _ (text : List ℕ) where
   kind_onward (suc zero) at h e = generator_onward kind.Wind at h e
   kind_onward (suc (suc zero)) at h e = generator_onward kind.Irr at h e
   kind_onward (suc (suc (suc zero))) at h e = generator_onward kind.Nuke at h e
-  kind_onward (suc (suc (suc (suc zero)))) at h e = lines_after _ controllable_fields at h e
-  kind_onward (suc (suc (suc (suc (suc n))))) at h e = lines_after _ load_fields at h e
+  kind_onward (suc (suc (suc (suc zero)))) at h e = lines_after (with_marks controllable_of) controllable_fields at h e
+  kind_onward (suc (suc (suc (suc (suc n))))) at h e = lines_after (with_marks load_of) load_fields at h e
 
   -- its kind's line alone has 7 bytes
   resource_onward : (at : ℕ) {one : Resource} {next : ℕ} → resource_at text at ≡ got one next → Onward text 7 at next

@@ -18,91 +18,91 @@ use Rattle.pricing_held.proofs.Suspects.{rows_resources}
 use Rattle.pricing_held.proofs.held_check.Statement.{statement}
 use Rattle.pricing_held.proofs.held_check.Tie as tie
 
-held-count-requires : tie.Need-held-count-requires
+held-count-requires : tie.Need-held_count-count-requires
 held-count-requires c κs = tt
 
-header-held-requires : tie.Need-header-held-requires
+header-held-requires : tie.Need-header_held-requires
 header-held-requires c κs =
-    let s = c.before.before in
-    omega (arith, c.held-count.ensures, held_ids s.args.ids.now s.args.numbers.now, s.well-formed)
+    let s = c in
+    omega (arith, c.held_count-count.ensures, held_ids s.args.ids.now s.args.numbers.now, s.well_formed)
 
-header-fault-requires : tie.Need-header-fault-requires
+header-fault-requires : tie.Need-header_fault-line-requires
 header-fault-requires c κs = tt
 
 -- the line that the header's numbers give
-fault : (c : tie.After-header-fault) → let a = c.before.before.before.before.args in
-    c.header-fault.result ≡ header_fault (header_held a.header.now (held_count a.ids.now a.numbers.now))
+fault : (c : tie.After-header_fault-line) → let a = c.args in
+    c.header_fault-line.result ≡ header_fault (header_held a.header.now (held_count a.ids.now a.numbers.now))
 fault c =
-    let a = c.before.before.before.before.args in
-    c.header-fault.ensures ∙ ap header_fault (c.before.header-held.ensures ∙ ap (header_held a.header.now) c.before.before.held-count.ensures)
+    let a = c.args in
+    c.header_fault-line.ensures ∙ ap header_fault (c.header_held.ensures ∙ ap (header_held a.header.now) c.held_count-count.ensures)
 
-returns : tie.Need-returns
+returns : tie.Need-returns-then-line-ne0
 returns c =
-    let a = c.before.before.before.before.before.args in
-    header_decides a.header.now a.ids.now a.numbers.now (fault c.before) c.if1.true
+    let a = c.args in
+    header_decides a.header.now a.ids.now a.numbers.now (fault (c.before)) c.if-line-ne0.true
 
-rows-checked-requires : tie.Need-rows-checked-requires
+rows-checked-requires : tie.Need-rows_checked-found-requires
 rows-checked-requires c κs =
-    let counted = c.before.before.before in
-    let a = counted.before.before.args in
-    let few = (header_bound (header_held a.header.now (held_count a.ids.now a.numbers.now)) (sym (fault c.before) ∙ c.if1.false)).count in
-    (omega (arith, few, counted.held-count.ensures), omega (arith, counted.held-count.ensures))
+    let counted = c in
+    let a = counted.args in
+    let few = (header_bound (header_held a.header.now (held_count a.ids.now a.numbers.now)) (sym (fault (c.before)) ∙ c.if-line-ne0.false)).count in
+    (omega (arith, few, counted.held_count-count.ensures), omega (arith, counted.held_count-count.ensures))
 
-enum_told : tie.Need-enum-told
-enum_told c = c.match.keys1
+enum_told : tie.Need-enum_told-1
+enum_told c = c.in-Accepted-1.keys1
 
-enum-told-2 : tie.Need-enum-told-2
-enum-told-2 c = c.match.keys2
+enum-told-2 : tie.Need-enum_told-in_default
+enum-told-2 c = c.in_default-1.keys2
 
 -- the start, and what the rows say, seen from where they were checked
-abbrev begun : tie.After-rows-checked → tie.Start
+abbrev begun : tie.After-rows_checked-found → tie.Start
 begun c = c.before.before.before.before.before.before
 
-rows : (c : tie.After-rows-checked) → let a = (begun c).args in
-    c.rows-checked.result ≡ first_refused 9 (rows_lines [] (held_rows a.ids.now a.numbers.now))
+rows : (c : tie.After-rows_checked-found) → let a = (begun c).args in
+    c.rows_checked-found.result ≡ first_refused 9 (rows_lines [] (held_rows a.ids.now a.numbers.now))
 rows c =
     let a = (begun c).args in
-    c.rows-checked.ensures ∙ ap (λ (count : ℕ). first_refused 9 (rows_lines [] (rows_from a.ids.now a.numbers.now 0 count))) c.before.before.before.before.held-count.ensures
+    c.rows_checked-found.ensures ∙ ap (λ (count : ℕ). first_refused 9 (rows_lines [] (rows_from a.ids.now a.numbers.now 0 count))) c.held_count-count.ensures
 
-returns-2 : tie.Need-returns-2
+returns-2 : tie.Need-returns-in_default
 returns-2 c =
-    let checked = c.before.before in
-    let a = (begun checked).args in
-    rows_decide a.header.now a.ids.now a.numbers.now (fault checked.before.before) checked.before.if1.false (rows checked) c.enum-told2.given.1
+    let checked = c in
+    let a = (begun (c.before)).args in
+    rows_decide a.header.now a.ids.now a.numbers.now (fault (c.before.before.before)) checked.if-line-ne0.false (rows (c.before)) c.in_default.is
 
-suspect-line-requires : tie.Need-suspect-line-requires
+suspect-line-requires : tie.Need-suspect_line-suspect-requires
 suspect-line-requires c κs =
-    let checked = c.before.before in
-    let counted = checked.before.before.before.before in
-    let a = (begun checked).args in
-    let few = (header_bound (header_held a.header.now (held_count a.ids.now a.numbers.now)) (sym (fault checked.before.before) ∙ checked.before.if1.false)).count in
-    (omega (arith, few, counted.held-count.ensures), omega (arith, counted.held-count.ensures, held_numbers a.ids.now a.numbers.now))
+    let checked = c in
+    let counted = checked in
+    let a = (begun (c.before)).args in
+    let few = (header_bound (header_held a.header.now (held_count a.ids.now a.numbers.now)) (sym (fault (c.before.before.before)) ∙ checked.if-line-ne0.false)).count in
+    (omega (arith, few, counted.held_count-count.ensures), omega (arith, counted.held_count-count.ensures, held_numbers a.ids.now a.numbers.now))
 
 -- the first line that a mark turns back
-suspect : (c : tie.After-suspect-line) → let a = (begun c.before.before.before).args in
-    c.suspect-line.result ≡ suspect_line (resources_of (contents_held a.header.now a.ids.now a.numbers.now).entries)
+suspect : (c : tie.After-suspect_line-suspect) → let a = (begun (c.before.before)).args in
+    c.suspect_line-suspect.result ≡ suspect_line (resources_of (contents_held a.header.now a.ids.now a.numbers.now).entries)
 suspect c =
-    let checked = c.before.before.before in
-    let a = (begun checked).args in
-    c.suspect-line.ensures
-    ∙ ap (λ (count : ℕ). suspect_line (resources_from a.numbers.now 0 count)) checked.before.before.before.before.held-count.ensures
+    let checked = c in
+    let a = (begun (c.before.before)).args in
+    c.suspect_line-suspect.ensures
+    ∙ ap (λ (count : ℕ). suspect_line (resources_from a.numbers.now 0 count)) checked.held_count-count.ensures
     ∙ ap suspect_line (sym (rows_resources a.ids.now a.numbers.now 0 (held_count a.ids.now a.numbers.now)))
     ∙ rw (contents_held_are a.header.now a.ids.now a.numbers.now)
 
-returns-3 : tie.Need-returns-3
+returns-3 : tie.Need-returns-then-suspect-ne0
 returns-3 c =
-    let checked = c.before.before.before.before in
-    let a = (begun checked).args in
-    mark_decides a.header.now a.ids.now a.numbers.now (fault checked.before.before) checked.before.if1.false (rows checked) c.before.before.enum_told.given.1 (suspect c.before) c.if2.true
+    let checked = c in
+    let a = (begun (c.before.before.before)).args in
+    mark_decides a.header.now a.ids.now a.numbers.now (fault (c.before.before.before.before.before)) checked.if-line-ne0.false (rows (c.before.before.before)) c.in-Accepted.is (suspect (c.before)) c.if-suspect-ne0.true
 
-returns-4 : tie.Need-returns-4
+returns-4 : tie.Need-returns
 returns-4 c =
-    let checked = c.before.before.before.before in
-    let a = (begun checked).args in
-    none_decides a.header.now a.ids.now a.numbers.now (fault checked.before.before) checked.before.if1.false (rows checked) c.before.before.enum_told.given.1 (suspect c.before) c.if2.false
+    let checked = c in
+    let a = (begun (c.before.before.before)).args in
+    none_decides a.header.now a.ids.now a.numbers.now (fault (c.before.before.before.before.before)) checked.if-line-ne0.false (rows (c.before.before.before)) c.in-Accepted.is (suspect (c.before)) c.if-suspect-ne0.false
 
-pub held-check-spec : {M : Type 1} → statement M
-held-check-spec =
+pub held_check_spec : {M : Type 1} → statement M
+held_check_spec =
     tie.close
     (tie.spec
     held-count-requires

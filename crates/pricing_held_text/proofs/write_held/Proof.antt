@@ -8,54 +8,54 @@ use Rattle.pricing_held_text.proofs.Cases.{LengthTold, length_told, length_other
 use Rattle.pricing_held_text.proofs.write_held.Statement.{statement}
 use Rattle.pricing_held_text.proofs.write_held.Tie as tie
 
-held-length-requires : tie.Need-held-length-requires
+held-length-requires : tie.Need-held_length-found-requires
 held-length-requires c κs = tt
 
-enum-known-found : tie.Need-enum-known-found
-enum-known-found c = c.match.keys1
+enum-known-found : tie.Need-enum_known-found
+enum-known-found c = c.in-Length-1.keys1
 
-enum_told : tie.Need-enum-told
-enum_told c = c.match.keys2
+enum_told : tie.Need-enum_told-1
+enum_told c = c.in_default-1.keys2
 
-returns : tie.Need-returns
+returns : tie.Need-returns-in_default
 returns c =
-    let lengthy = c.before.before in
-    let a = lengthy.before.before.before.args in
+    let lengthy = c in
+    let a = lengthy.args in
     let told = c.enum_told.given in
     subst⁻¹ (λ (ended : HeldText). HeldWritten a.header.now a.ids.now a.numbers.now a.buffer.now a.buffer.now ended) told.1
-    (written_refused a.header.now a.ids.now a.numbers.now a.buffer.now (length_other a.header.now a.ids.now a.numbers.now (sym lengthy.held-length.ensures ∙ told.1)))
+    (written_refused a.header.now a.ids.now a.numbers.now a.buffer.now (length_other a.header.now a.ids.now a.numbers.now (sym lengthy.held_length-found.ensures ∙ told.1)))
 
 -- the length that was told, seen from where it is known
-told : (c : tie.After-known-told) → let a = c.before.before.before.before.before.before.args in LengthTold a.header.now a.ids.now a.numbers.now c.before.found.given.0.0
+told : (c : tie.In-Length) → let a = c.args in LengthTold a.header.now a.ids.now a.numbers.now c.in-Length.length
 told c =
-    let lengthy = c.before.before.before in
-    let a = lengthy.before.before.before.args in
-    length_told a.header.now a.ids.now a.numbers.now (sym lengthy.held-length.ensures ∙ c.before.found.given.1)
+    let lengthy = c in
+    let a = lengthy.args in
+    length_told a.header.now a.ids.now a.numbers.now (sym lengthy.held_length-found.ensures ∙ c.in-Length.is)
 
-returns-2 : tie.Need-returns-2
+returns-2 : tie.Need-returns-then-buffer-length
 returns-2 c =
-    let a = c.before.before.before.before.before.before.before.args in
-    written_short a.header.now a.ids.now a.numbers.now a.buffer.now (told c.before) c.if1.true
+    let a = c.args in
+    written_short a.header.now a.ids.now a.numbers.now a.buffer.now (told (c.before)) c.if-buffer-length.true
 
-put-text-requires : tie.Need-put-text-requires
+put-text-requires : tie.Need-put_text-requires
 put-text-requires c κs =
-    let tested = c.before in
-    let a = tested.before.before.before.before.before.before.before.args in
-    let known = told tested.before in
-    (held_few a.header.now a.ids.now a.numbers.now known.accepted, omega (arith, known.is, tested.if1.false))
+    let tested = c in
+    let a = tested.args in
+    let known = told (c.before.before) in
+    (held_few a.header.now a.ids.now a.numbers.now known.accepted, omega (arith, known.is, tested.if-buffer-length.false))
 
-same_length : tie.Need-same-length
-same_length c = c.before.before.put-text.auto.0
+same_length : tie.Need-shape_of-buffer
+same_length c = c.put_text.auto.buffer
 
-returns-3 : tie.Need-returns-3
+returns-3 : tie.Need-returns
 returns-3 c =
-    let put = c.before.before in
-    let tested = put.before.before in
-    let a = tested.before.before.before.before.before.before.before.args in
-    written_whole a.header.now a.ids.now a.numbers.now a.buffer.now (told tested.before) tested.if1.false put.put-text.ensures
+    let put = c in
+    let tested = put in
+    let a = tested.args in
+    written_whole a.header.now a.ids.now a.numbers.now a.buffer.now (told (c.before.before.before.before.before)) tested.if-buffer-length.false put.put_text.ensures
 
-pub write-held-spec : {M : Type 1} → statement M
-write-held-spec =
+pub write_held_spec : {M : Type 1} → statement M
+write_held_spec =
     tie.close
     (tie.spec
     held-length-requires

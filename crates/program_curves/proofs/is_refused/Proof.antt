@@ -2,38 +2,38 @@
 use Rattle.program_curves.proofs.is_refused.Statement.{statement}
 use Rattle.program_curves.proofs.is_refused.Tie as tie
 
-enum_told : tie.Need-enum-told
-enum_told c = c.match.keys1
+enum_told : tie.Need-enum_told-1
+enum_told c = c.in-Voll-1.keys1
 
-returns : tie.Need-returns
-returns c = rw c.enum_told.given.1
+returns : tie.Need-returns-in-Voll
+returns c = rw c.in-Voll.is
 
-enum-told-2 : tie.Need-enum-told-2
-enum-told-2 c = c.match.keys2
+enum-told-2 : tie.Need-enum_told-in-Floor
+enum-told-2 c = c.in-Floor-1.keys2
 
-returns-2 : tie.Need-returns-2
-returns-2 c = rw c.enum-told2.given.1
+returns-2 : tie.Need-returns-in-Floor
+returns-2 c = rw c.in-Floor.is
 
-enum-told-3 : tie.Need-enum-told-3
-enum-told-3 c = c.match.keys3
+enum-told-3 : tie.Need-enum_told-in-Hours
+enum-told-3 c = c.in-Hours-1.keys3
 
-returns-3 : tie.Need-returns-3
-returns-3 c = rw c.enum-told3.given.1
+returns-3 : tie.Need-returns-in-Hours
+returns-3 c = rw c.in-Hours.is
 
-enum-told-4 : tie.Need-enum-told-4
-enum-told-4 c = c.match.keys4
+enum-told-4 : tie.Need-enum_told-in-RefusedHour
+enum-told-4 c = c.in-RefusedHour-1.keys4
 
-returns-4 : tie.Need-returns-4
-returns-4 c = rw c.enum-told4.given.1
+returns-4 : tie.Need-returns-in-RefusedHour
+returns-4 c = rw c.in-RefusedHour.is
 
-enum-told-5 : tie.Need-enum-told-5
-enum-told-5 c = c.match.keys5
+enum-told-5 : tie.Need-enum_told-in-RefusedSettle
+enum-told-5 c = c.in-RefusedSettle-1.keys5
 
-returns-5 : tie.Need-returns-5
-returns-5 c = rw c.enum-told5.given.1
+returns-5 : tie.Need-returns-in-RefusedSettle
+returns-5 c = rw c.in-RefusedSettle.is
 
-pub is-refused-spec : {M : Type 1} → statement M
-is-refused-spec =
+pub is_refused_spec : {M : Type 1} → statement M
+is_refused_spec =
     tie.close
     (tie.spec
     enum_told

@@ -7,38 +7,38 @@ use Rattle.program_page.proofs.Printing.{page_stands, page_short}
 use Rattle.program_page.proofs.print_page.Statement.{statement}
 use Rattle.program_page.proofs.print_page.Tie as tie
 
-write-page-requires : tie.Need-write-page-requires
+write-page-requires : tie.Need-write_page-answer-requires
 write-page-requires c κs = tt
 
-enum_told : tie.Need-enum-told
+enum_told : tie.Need-enum_told-1
 enum_told c = search rules
 
-enum-told-2 : tie.Need-enum-told-2
+enum-told-2 : tie.Need-enum_told-in_default
 enum-told-2 c = search rules
 
-same_length : tie.Need-same-length
+same_length : tie.Need-shape_of-out-in_default
 same_length c = search rules
 
 all : (s : tie.Start) → length s.args.curves.pairs ≡ 24
 all s = search rules
 
-returns : tie.Need-returns
+returns : tie.Need-returns-in_default
 returns c =
-    let w = c.before.before.before.before in
-    let s = w.before.before.before in
-    page_short s.args.curves s.args.out.now w.write-page.new.1.0 (all s) s.requires (subst (PageWritten s.args.curves s.args.out.now w.write-page.new.1.0) c.enum-told2.given.1 w.write-page.ensures)
+    let w = c in
+    let s = w in
+    page_short s.args.curves s.args.out.now w.write_page-answer.new.buffer (all (c.before.before.before.before.before.before)) s.requires (subst (PageWritten s.args.curves s.args.out.now w.write_page-answer.new.buffer) c.in_default.is w.write_page-answer.ensures)
 
-same-length-2 : tie.Need-same-length-2
+same-length-2 : tie.Need-shape_of-out
 same-length-2 c = search rules
 
-returns-2 : tie.Need-returns-2
+returns-2 : tie.Need-returns
 returns-2 c =
-    let w = c.before.before.before.before in
-    let s = w.before.before.before in
-    page_stands s.args.curves s.args.out.now w.write-page.new.1.0 (all s) s.requires (subst (PageWritten s.args.curves s.args.out.now w.write-page.new.1.0) c.enum_told.given.1 w.write-page.ensures)
+    let w = c in
+    let s = w in
+    page_stands s.args.curves s.args.out.now w.write_page-answer.new.buffer (all (c.before.before.before.before.before.before)) s.requires (subst (PageWritten s.args.curves s.args.out.now w.write_page-answer.new.buffer) c.in-Accepted.is w.write_page-answer.ensures)
 
-pub print-page-spec : {M : Type 1} → statement M
-print-page-spec =
+pub print_page_spec : {M : Type 1} → statement M
+print_page_spec =
     tie.close
     (tie.spec
     write-page-requires

@@ -52,9 +52,9 @@ returns c =
     let g = told.struct_told-1.given in
     let h = called.args.header in
     rw (
-      to_z-of_z (sfits_of c.reserve_of.type_inv),
+      to_z-of_z {w = w64} (sfits_of c.reserve_of.type_inv),
       c.reserve_of.ensures,
-      le-le_z (at_most_taken h.prc h.eea1 (sfits_of g.1.1.1.1.0.1) (sfits_of g.1.1.1.1.1.0.1) c.if-header.true),
+      le-le_z (at_most_taken {w = w64} h.prc h.eea1 (sfits_of g.1.1.1.1.0.1) (sfits_of g.1.1.1.1.1.0.1) c.if-header.true),
     ) (rw (twice (c.before.before.before.before)))
 
 mul-reserve-of : tie.Need-overflow_mul-sums
@@ -85,9 +85,9 @@ returns-2 c =
     let h = start.args.header in
     let s = start.args.sums in
     rw (
-      to_z-of_z (sfits_of c.reserve_of-2.type_inv),
+      to_z-of_z {w = w64} (sfits_of c.reserve_of-2.type_inv),
       c.reserve_of-2.ensures,
-      lt-le_z (at_most_left h.prc h.eea1 (sfits_of g.1.1.1.1.0.1) (sfits_of g.1.1.1.1.1.0.1) here.if-header.false),
+      lt-le_z (at_most_left {w = w64} h.prc h.eea1 (sfits_of g.1.1.1.1.0.1) (sfits_of g.1.1.1.1.1.0.1) here.if-header.false),
     )
     (rw (twice (c.before.before.before.before.before.before), added (c.before), to_z-of_z (added-fits s (bound (c.before.before.before.before.before.before.before))), to_z-of_z (all-fits s (bound (c.before.before.before.before.before.before.before)))))
 

@@ -8,68 +8,68 @@ use Rattle.pricing_held.proofs.RowsChecks.{RowsUnderWay, count_most, rows_start,
 use Rattle.pricing_held.proofs.rows.check_rows.Statement.{statement}
 use Rattle.pricing_held.proofs.rows.check_rows.Tie as tie
 
-abbrev invariant-loop : tie.invariant-loop
+abbrev invariant-loop : tie.invariant-loop-i
 invariant-loop ids numbers count starts₀ line₀ i₀ starts line i = RowsUnderWay ids numbers count starts₀ starts line i
 
-abbrev decreases-loop : tie.decreases-loop
+abbrev decreases-loop : tie.decreases-loop-i
 decreases-loop ids numbers count starts₀ line₀ i₀ starts line i = count - i
 
-loop-holds : tie.Need-loop-init invariant-loop decreases-loop
-loop-holds c = let start = c.before.before in rows_start start.requires.0 start.requires.1.0 start.requires.1.1
+loop-holds : tie.Need-loop-i-init invariant-loop decreases-loop
+loop-holds c = let start = c in rows_start start.requires.0 start.requires.1.0 start.requires.1.1
 
-check-row-requires : tie.Need-check-row-requires invariant-loop decreases-loop
-check-row-requires c κs = let turn = c.before in rows_room turn.before.loop.invariant turn.loop-test.true
+check-row-requires : tie.Need-check_row-found-requires invariant-loop decreases-loop
+check-row-requires c κs = let turn = c in rows_room turn.loop-i.invariant turn.loop-i-test.true
 
-enum_told : tie.Need-enum-told invariant-loop decreases-loop
-enum_told c = c.match.keys1
+enum_told : tie.Need-enum_told-1 invariant-loop decreases-loop
+enum_told c = c.in-Accepted-1.keys1
 
-enum-told-2 : tie.Need-enum-told-2 invariant-loop decreases-loop
-enum-told-2 c = c.match.keys2
+enum-told-2 : tie.Need-enum_told-in_default invariant-loop decreases-loop
+enum-told-2 c = c.in_default-1.keys2
 
 -- the turn of the loop, and the table's length, seen from where the row is checked
-abbrev turn : tie.After-check-row invariant-loop decreases-loop → tie.In-loop invariant-loop decreases-loop
+abbrev turn : tie.After-check_row-found invariant-loop decreases-loop → tie.In-loop-i invariant-loop decreases-loop
 turn c = c.before.before
 
-same_length : tie.Need-same-length invariant-loop decreases-loop
-same_length c = let kept = c.before.before.before in kept.starts.given ∙ (turn kept.before).before.loop.inv.long
+same_length : tie.Need-shape_of-starts-in_default invariant-loop decreases-loop
+same_length c = let kept = c in kept.starts-1.given ∙ (turn (c.before.before.before)).loop-i.invariant.long
 
-returns : tie.Need-returns invariant-loop decreases-loop
+returns : tie.Need-returns-in_default invariant-loop decreases-loop
 returns c =
-    let row = c.before.before.before.before in
-    rows_stop (turn row).before.loop.invariant (turn row).loop-test.true row.check-row.ensures c.enum-told2.given.1
+    let row = c in
+    rows_stop (turn (c.before.before.before)).loop-i.invariant (turn (c.before.before.before)).loop-i-test.true row.check_row-found.ensures c.in_default.is
 
-row-lines-requires : tie.Need-row-lines-requires invariant-loop decreases-loop
+row-lines-requires : tie.Need-row_lines-line-requires invariant-loop decreases-loop
 row-lines-requires c κs =
-    let row = c.before.before.before.before in
-    (rows_room (turn row).before.loop.invariant (turn row).loop-test.true).number_row
+    let row = c in
+    (rows_room (turn (c.before.before.before)).loop-i.invariant (turn (c.before.before.before)).loop-i-test.true).number_row
 
-add-line : tie.Need-overflow-add-line invariant-loop decreases-loop
+add-line : tie.Need-overflow_add-line invariant-loop decreases-loop
 add-line c =
-    let row = c.before.before.before.before.before in
-    let room = rows_room (turn row).before.loop.invariant (turn row).loop-test.true in
-    let a = (turn row).before.before.before.before.args in
-    omega (arith, room.small, c.row-lines.ensures, count_most (place_of (value a.numbers.now (9 * (turn row).before.loop.i))))
+    let row = c in
+    let room = rows_room (turn (c.before.before.before.before)).loop-i.invariant (turn (c.before.before.before.before)).loop-i-test.true in
+    let a = (turn (c.before.before.before.before)).args in
+    omega (arith, room.small, c.row_lines-line.ensures, count_most (place_of (value a.numbers.now (9 * (turn (c.before.before.before.before)).loop-i.i))))
 
-add-i : tie.Need-overflow-add-i invariant-loop decreases-loop
-add-i c = let at = turn c.before.before.before.before.before in omega (arith, at.loop-test.taken, at.before.loop.inv.room.few)
+add-i : tie.Need-overflow_add-i invariant-loop decreases-loop
+add-i c = let at = turn (c.before.before.before.before) in omega (arith, at.loop-i-test.true, at.loop-i.invariant.room.few)
 
-loop-less : tie.Need-loop-smaller invariant-loop decreases-loop
-loop-less c = let at = turn c.before.before.before.before.before in omega (arith, at.loop-test.taken)
+loop-less : tie.Need-loop-i-smaller invariant-loop decreases-loop
+loop-less c = let at = turn (c.before.before.before.before) in omega (arith, at.loop-i-test.true)
 
-loop-again : tie.Need-loop-preserved invariant-loop decreases-loop
+loop-again : tie.Need-loop-i-preserved invariant-loop decreases-loop
 loop-again c =
-    let kept = c.before.before.before.before in
-    let row = kept.before in
-    rows_next (turn row).before.loop.invariant (turn row).loop-test.true row.check-row.ensures c.before.enum_told.given.1 c.row-lines.ensures kept.starts.given
+    let kept = c in
+    let row = kept in
+    rows_next (turn (c.before.before.before.before)).loop-i.invariant (turn (c.before.before.before.before)).loop-i-test.true row.check_row-found.ensures c.in-Accepted.is c.row_lines-line.ensures kept.starts-1.given
 
-same-length-2 : tie.Need-same-length-2 invariant-loop decreases-loop
-same-length-2 c = c.before.loop.invariant.long
+same-length-2 : tie.Need-shape_of-starts invariant-loop decreases-loop
+same-length-2 c = c.loop-i.invariant.long
 
-returns-2 : tie.Need-returns-2 invariant-loop decreases-loop
-returns-2 c = rows_over c.before.loop.invariant c.loop-test.false
+returns-2 : tie.Need-returns invariant-loop decreases-loop
+returns-2 c = rows_over c.loop-i.invariant c.loop-i-test.false
 
-pub check-rows-spec : {M : Type 1} → statement M
-check-rows-spec =
+pub check_rows_spec : {M : Type 1} → statement M
+check_rows_spec =
     tie.close
     (tie.spec
     invariant-loop

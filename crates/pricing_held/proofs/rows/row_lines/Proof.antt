@@ -1,3 +1,4 @@
+use mir.Syntax.{w64}
 use native.Mathlib.Omega.{arith}
 use Prim.Native.Nat.{◌*◌}
 use mathlib.Core.Path.{◌≡◌, ap, ◌∙◌}
@@ -9,29 +10,29 @@ use Rattle.pricing_held.specs.Rows.{place_of}
 use Rattle.pricing_held.proofs.rows.row_lines.Statement.{statement}
 use Rattle.pricing_held.proofs.rows.row_lines.Tie as tie
 
-mul-place-of : tie.Need-overflow-mul-place-of
+mul-place-of : tie.Need-overflow_mul-i
 mul-place-of c = omega arith
 
-mul-place-of-2 : tie.Need-overflow-mul-place-of-2
+mul-place-of-2 : tie.Need-offset_bounds-numbers-i
 mul-place-of-2 c = omega arith
 
-shared-slice-copy-out-place-of : tie.Need-shared-slice-copy-out-place-of
+shared-slice-copy-out-place-of : tie.Need-bounds-numbers-i
 shared-slice-copy-out-place-of c = omega arith
 
-place-of-requires : tie.Need-place-of-requires
+place-of-requires : tie.Need-place_of-requires
 place-of-requires c κs = tt
 
-kind : (c : tie.After-place-of) → let a = c.before.before.args in c.place_of.result ≡ place_of (value a.numbers.now (9 * a.i))
-kind c = c.place_of.ensures ∙ ap place_of (to_z-of_z {z = value c.before.before.args.numbers.now (9 * c.before.before.args.i)} (sfits_of c.before.place-of-arg.given))
+kind : (c : tie.After-place_of) → let a = c.args in c.place_of.result ≡ place_of (value a.numbers.now (9 * a.i))
+kind c = c.place_of.ensures ∙ ap place_of (to_z-of_z {w = w64} {z = value c.args.numbers.now (9 * c.args.i)} (sfits_of c.place_of-arg-1.given))
 
-returns : tie.Need-returns
-returns c = rw (← kind c.before, lt-ltb c.before.place_of.result 4 c.if1.true)
+returns : tie.Need-returns-then-place_of-lt4
+returns c = rw (← kind (c.before), lt-ltb c.place_of.result 4 c.if-place_of-lt4.true)
 
-returns-2 : tie.Need-returns-2
-returns-2 c = rw (← kind c.before, le-ltb c.before.place_of.result 4 c.if1.false)
+returns-2 : tie.Need-returns
+returns-2 c = rw (← kind (c.before), le-ltb c.place_of.result 4 c.if-place_of-lt4.false)
 
-pub row-lines-spec : {M : Type 1} → statement M
-row-lines-spec =
+pub row_lines_spec : {M : Type 1} → statement M
+row_lines_spec =
     tie.close
     (tie.spec
     mul-place-of

@@ -20,11 +20,11 @@ flag-not-set z other = go (is_one z) refl
     go true e = absurd (other (ap (of_z w64) (one_is z e)))
     go false e = refl
 
-returns : tie.Need-returns
-returns c = rw (flag-set c.before.args.z c.before.ranges.z c.if1.true)
+returns : tie.Need-returns-then-z-eq1
+returns c = rw (flag-set c.args.z c.ranges.z c.if-z-eq1.true)
 
-returns-2 : tie.Need-returns-2
-returns-2 c = rw (flag-not-set c.before.args.z c.if1.false)
+returns-2 : tie.Need-returns
+returns-2 c = rw (flag-not-set c.args.z c.if-z-eq1.false)
 
-pub flag-of-spec : {M : Type 1} → statement M
-flag-of-spec = tie.close (tie.spec returns returns-2)
+pub flag_of_spec : {M : Type 1} → statement M
+flag_of_spec = tie.close (tie.spec returns returns-2)

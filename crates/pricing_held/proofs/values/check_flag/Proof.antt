@@ -6,20 +6,20 @@ use Rattle.integer.specs.Range.{within}
 use Rattle.pricing_held.proofs.values.check_flag.Statement.{statement}
 use Rattle.pricing_held.proofs.values.check_flag.Tie as tie
 
-returns : tie.Need-returns
-returns c = rw c.if1.true
+returns : tie.Need-returns-then-marked
+returns c = rw c.if-marked.true
 
-is-within-requires : tie.Need-is-within-requires
+is-within-requires : tie.Need-is_within-requires
 is-within-requires c κs = tt
 
-told : (c : tie.After-is-within) → within (pos 0) (pos 1) c.before.before.args.z ≡ c.is_Within.result
-told c = sym (c.is_Within.ensures ∙ rw (to_z-of_z c.before.before.ranges.z))
+told : (c : tie.After-is_within) → within (pos 0) (pos 1) c.args.z ≡ c.is_within.result
+told c = sym (c.is_within.ensures ∙ rw (to_z-of_z c.ranges.z))
 
-returns-2 : tie.Need-returns-2
-returns-2 c = rw (c.before.before.if1.false, told c.before ∙ not-true c.before.is_Within.result c.if2.true)
+returns-2 : tie.Need-returns-then-not-is_within
+returns-2 c = rw (c.if-marked.false, told (c.before) ∙ not-true c.is_within.result c.if-not-is_within.true-raw)
 
-returns-3 : tie.Need-returns-3
-returns-3 c = rw (c.before.before.if1.false, told c.before ∙ not-false c.before.is_Within.result c.if2.false)
+returns-3 : tie.Need-returns
+returns-3 c = rw (c.if-marked.false, told (c.before) ∙ not-false c.is_within.result c.if-not-is_within.false-raw)
 
-pub check-flag-spec : {M : Type 1} → statement M
-check-flag-spec = tie.close (tie.spec returns is-within-requires returns-2 returns-3)
+pub check_flag_spec : {M : Type 1} → statement M
+check_flag_spec = tie.close (tie.spec returns is-within-requires returns-2 returns-3)

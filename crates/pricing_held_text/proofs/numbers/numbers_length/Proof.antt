@@ -14,59 +14,59 @@ use Rattle.text_writer.proofs.Counted.{bytes_over, bytes_next, machine_bytes}
 use Rattle.pricing_held_text.proofs.numbers.numbers_length.Statement.{statement}
 use Rattle.pricing_held_text.proofs.numbers.numbers_length.Tie as tie
 
-abbrev invariant-loop : tie.invariant-loop
+abbrev invariant-loop : tie.invariant-loop-i
 invariant-loop values total₀ i₀ total i = (i ≤ length values) × (total ≤ 20 * i) × (total + number_bytes (drop i values) ≡ number_bytes values)
 
-abbrev decreases-loop : tie.decreases-loop
+abbrev decreases-loop : tie.decreases-loop-i
 decreases-loop values total₀ i₀ total i = length values - i
 
-loop-holds : tie.Need-loop-init invariant-loop decreases-loop
+loop-holds : tie.Need-loop-i-init invariant-loop decreases-loop
 loop-holds c = (omega arith, omega arith, omega arith)
 
-mul-number-length : tie.Need-overflow-mul-number-length invariant-loop decreases-loop
+mul-number-length : tie.Need-offset_bounds-values-i invariant-loop decreases-loop
 mul-number-length c = omega arith
 
-shared-slice-copy-out-number-length : tie.Need-shared-slice-copy-out-number-length invariant-loop decreases-loop
+shared-slice-copy-out-number-length : tie.Need-bounds-values-i invariant-loop decreases-loop
 shared-slice-copy-out-number-length c = omega arith
 
-number-length-requires : tie.Need-number-length-requires invariant-loop decreases-loop
+number-length-requires : tie.Need-number_length-total-requires invariant-loop decreases-loop
 number-length-requires c κs = tt
 
 -- the number that a turn counts
-abbrev z : tie.After-number-length invariant-loop decreases-loop → ℤ
-z c = get_or c.before.before.before.before.args.values.now c.before.before.before.loop.i (pos 0)
+abbrev z : tie.After-number_length-total invariant-loop decreases-loop → ℤ
+z c = get_or c.args.values.now c.loop-i.i (pos 0)
 
-fits : (c : tie.After-number-length invariant-loop decreases-loop) → SFits w64 (z c)
-fits c = sfits_of c.before.number-length-arg.given
+fits : (c : tie.After-number_length-total invariant-loop decreases-loop) → SFits w64 (z c)
+fits c = sfits_of c.number_length-arg-1.given
 
-counted : (c : tie.After-number-length invariant-loop decreases-loop) → c.number-length.result ≡ length (written_number (z c))
-counted c = c.number-length.ensures ∙ ap (λ (z : ℤ). length (written_number z)) (to_z-of_z (fits c))
+counted : (c : tie.After-number_length-total invariant-loop decreases-loop) → c.number_length-total.result ≡ length (written_number (z c))
+counted c = c.number_length-total.ensures ∙ ap (λ (z : ℤ). length (written_number z)) (to_z-of_z (fits c))
 
-few : (c : tie.After-number-length invariant-loop decreases-loop) → c.number-length.result ≤ 20
+few : (c : tie.After-number_length-total invariant-loop decreases-loop) → c.number_length-total.result ≤ 20
 few c = omega (arith, counted c, machine_bytes (fits c))
 
-add_total : tie.Need-overflow-add-total invariant-loop decreases-loop
+add_total : tie.Need-overflow_add-total invariant-loop decreases-loop
 add_total c = omega (arith, few c)
 
-add-i : tie.Need-overflow-add-i invariant-loop decreases-loop
+add-i : tie.Need-overflow_add-i invariant-loop decreases-loop
 add-i c = omega arith
 
-loop-less : tie.Need-loop-smaller invariant-loop decreases-loop
+loop-less : tie.Need-loop-i-smaller invariant-loop decreases-loop
 loop-less c = omega arith
 
-loop-again : tie.Need-loop-preserved invariant-loop decreases-loop
+loop-again : tie.Need-loop-i-preserved invariant-loop decreases-loop
 loop-again c =
-    let l = c.before.before.before.loop in (
+    let l = c.loop-i in (
       omega arith,
       omega (arith, few c),
-      omega (arith, counted c, bytes_next c.before.before.before.before.args.values.now l.i c.before.before.loop-test.true),
+      omega (arith, counted c, bytes_next c.args.values.now l.i c.loop-i-test.true),
     )
 
 returns : tie.Need-returns invariant-loop decreases-loop
-returns c = (omega (arith, bytes_over c.before.before.args.values.now c.before.loop.i c.loop-test.false), omega arith)
+returns c = (omega (arith, bytes_over c.args.values.now c.loop-i.i c.loop-i-test.false), omega arith)
 
-pub numbers-length-spec : {M : Type 1} → statement M
-numbers-length-spec =
+pub numbers_length_spec : {M : Type 1} → statement M
+numbers_length_spec =
     tie.close
     (tie.spec
     invariant-loop

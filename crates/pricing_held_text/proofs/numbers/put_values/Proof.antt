@@ -9,44 +9,44 @@ use Rattle.pricing_held_text.proofs.numbers.put_values.Statement.{statement}
 use Rattle.pricing_held_text.proofs.numbers.put_values.Tie as tie
 
 -- a generator's lines are the same for every kind of generator
-put-generator-requires : tie.Need-put-generator-requires
+put-generator-requires : tie.Need-put_generator-requires
 put-generator-requires c κs =
-    let s = c.before.before.before in
-    (s.requires.0, rw (of_generator (row_of s.args.values.now) s.args.kind c.before.if1.true) at s.requires.1)
+    let s = c in
+    (s.requires.0, rw (of_generator (row_of s.args.values.now) s.args.kind c.if-kind-lt4.true) at s.requires.1)
 
-same_length : tie.Need-same-length
-same_length c = c.before.before.put-generator.auto.0
+same_length : tie.Need-shape_of-buffer-then-kind-lt4
+same_length c = c.put_generator.auto.buffer
 
-returns : tie.Need-returns
+returns : tie.Need-returns-then-kind-lt4
 returns c =
-    let lines = c.before.before in
-    let s = lines.before.before.before.before in
-    rw (of_generator (row_of s.args.values.now) s.args.kind lines.before.before.if1.true) lines.put-generator.ensures
+    let lines = c in
+    let s = lines in
+    rw (of_generator (row_of s.args.values.now) s.args.kind lines.if-kind-lt4.true) lines.put_generator.ensures
 
-put-controllable-requires : tie.Need-put-controllable-requires
-put-controllable-requires c κs = let s = c.before.before.before.before in (s.requires.0, rw c.before.if2.true at s.requires.1)
+put-controllable-requires : tie.Need-put_controllable-requires
+put-controllable-requires c κs = let s = c in (s.requires.0, rw c.if-kind-eq4.true at s.requires.1)
 
-same-length-2 : tie.Need-same-length-2
-same-length-2 c = c.before.before.put-controllable.auto.0
+same-length-2 : tie.Need-shape_of-buffer-then-kind-eq4
+same-length-2 c = c.put_controllable.auto.buffer
 
-returns-2 : tie.Need-returns-2
-returns-2 c = let lines = c.before.before in rw lines.before.before.if2.true lines.put-controllable.ensures
+returns-2 : tie.Need-returns-then-kind-eq4
+returns-2 c = let lines = c in rw lines.if-kind-eq4.true lines.put_controllable.ensures
 
 -- the lines of every other kind are those of the last
-last-kind : (c : tie.Else2) → let s = c.before.before.before in lines_of_kind s.args.kind (row_of s.args.values.now) ≡ lines_of_kind 5 (row_of s.args.values.now)
-last-kind c = let s = c.before.before.before in of_load s.args.kind (row_of s.args.values.now) (omega (arith, c.if2.false, c.before.if1.false))
+last-kind : (c : tie.Else-kind-eq4) → let s = c in lines_of_kind s.args.kind (row_of s.args.values.now) ≡ lines_of_kind 5 (row_of s.args.values.now)
+last-kind c = let s = c in of_load s.args.kind (row_of s.args.values.now) (omega (arith, c.if-kind-eq4.false, c.if-kind-lt4.false))
 
-put-load-requires : tie.Need-put-load-requires
-put-load-requires c κs = let s = c.before.before.before.before in (s.requires.0, rw (last-kind c.before) at s.requires.1)
+put-load-requires : tie.Need-put_load-requires
+put-load-requires c κs = let s = c in (s.requires.0, rw (last-kind (c.before)) at s.requires.1)
 
-same-length-3 : tie.Need-same-length-3
-same-length-3 c = c.before.before.put-load.auto.0
+same-length-3 : tie.Need-shape_of-buffer
+same-length-3 c = c.put_load.auto.buffer
 
-returns-3 : tie.Need-returns-3
-returns-3 c = let lines = c.before.before in rw (last-kind lines.before.before) lines.put-load.ensures
+returns-3 : tie.Need-returns
+returns-3 c = let lines = c in rw (last-kind (c.before.before.before.before)) lines.put_load.ensures
 
-pub put-values-spec : {M : Type 1} → statement M
-put-values-spec =
+pub put_values_spec : {M : Type 1} → statement M
+put_values_spec =
     tie.close
     (tie.spec
     put-generator-requires

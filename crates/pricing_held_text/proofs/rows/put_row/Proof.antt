@@ -33,126 +33,122 @@ module _ (s : tie.Start) where
   values = values_text s.args.ids.now s.args.numbers.now s.args.i
 
   fits : s.args.at + (length id + (length kind + length values)) ≤ length s.args.buffer.now
-  fits = omega (arith, s.pre.2, ap length (row_text_lem s.args.ids.now s.args.numbers.now s.args.i), length-append id (kind ++ values), length-append kind values)
+  fits = omega (arith, s.requires.2, ap length (row_text_lem s.args.ids.now s.args.numbers.now s.args.i), length-append id (kind ++ values), length-append kind values)
 
-slice-aggregate-write-text-line : tie.Need-slice-aggregate-write-text-line
-slice-aggregate-write-text-line c = search rules
-
-mul-id-at : tie.Need-overflow-mul-id-at
+mul-id-at : tie.Need-overflow_mul-i
 mul-id-at c = omega arith
 
-id-at-requires : tie.Need-id-at-requires
+id-at-requires : tie.Need-id_at-requires
 id-at-requires c κs = tt
 
-write-text-line-requires : tie.Need-write-text-line-requires
+write-text-line-requires : tie.Need-write_text_line-requires
 write-text-line-requires c κs = tt
 
-next-of-requires : tie.Need-next-of-requires
+next-of-requires : tie.Need-next_of-next-requires
 next-of-requires c κs = tt
 
-mul-place-of : tie.Need-overflow-mul-place-of
+mul-place-of : tie.Need-overflow_mul-i-2
 mul-place-of c = omega arith
 
-mul-place-of-2 : tie.Need-overflow-mul-place-of-2
+mul-place-of-2 : tie.Need-offset_bounds-numbers-i
 mul-place-of-2 c = omega arith
 
-shared-slice-copy-out-place-of : tie.Need-shared-slice-copy-out-place-of
+shared-slice-copy-out-place-of : tie.Need-bounds-numbers-i
 shared-slice-copy-out-place-of c = omega arith
 
-place-of-requires : tie.Need-place-of-requires
+place-of-requires : tie.Need-place_of-kind-requires
 place-of-requires c κs = tt
 
-put-kind-requires : tie.Need-put-kind-requires
+put-kind-requires : tie.Need-put_kind-requires
 put-kind-requires c κs = tt
 
-next-of-requires-2 : tie.Need-next-of-requires-2
+next-of-requires-2 : tie.Need-next_of-after-requires
 next-of-requires-2 c κs = tt
 
 -- where the id's line is written, where the kind's, and the start
-abbrev id-written : tie.After-next-of → tie.After-write-text-line
+abbrev id-written : tie.After-next_of-next → tie.After-write_text_line
 id-written c = c.before.before.before
 
-abbrev start : tie.After-next-of → tie.Start
-start c = (id-written c).before.before.before.before.before.before
+abbrev start : tie.After-next_of-next → tie.Start
+start c = c.before.before.before.before.before.before.before.before.before.before
 
-abbrev kind-written : tie.After-next-of2 → tie.After-put-kind
+abbrev kind-written : tie.After-next_of-after → tie.After-put_kind
 kind-written c = c.before.before.before
 
-abbrev id_next : tie.After-next-of2 → tie.After-next-of
-id_next c = (kind-written c).before.before.before.before
+abbrev id_next : tie.After-next_of-after → tie.After-next_of-next
+id_next c = c.before.before.before.before.before.before.before
 
 -- the id's line, and behind it the kind's
-id-laid : (c : tie.After-next-of) → TextLaid (id (start c)) (start c).args.buffer.now (start c).args.at (id-written c).write-text-line.new.0 c.next_of.result
+id-laid : (c : tie.After-next_of-next) → TextLaid (id (start c)) (start c).args.buffer.now (start c).args.at (id-written c).write_text_line.new.buffer c.next_of-next.result
 id-laid c =
-    let same = ap (λ (id : List ℕ). bytes "id=" ++ (id ++ (10 ∷ []))) (id-written c).before.id-at.ensures in
-    laid_as same (laid_of (id-written c).write-text-line.ensures c.next_of.ensures (omega (arith, ap length same, fits (start c))))
+    let same = ap (λ (id : List ℕ). bytes "id=" ++ (id ++ (10 ∷ []))) (id-written c).id_at.ensures in
+    laid_as same (laid_of (id-written c).write_text_line.ensures c.next_of-next.ensures (omega (arith, ap length same, fits (start c))))
 
-place : (c : tie.After-next-of2) → let s = start (id_next c) in (kind-written c).before.before.place_of.result ≡ kind_at s.args.ids.now s.args.numbers.now s.args.i
+place : (c : tie.After-next_of-after) → let s = start (id_next c) in (kind-written c).place_of-kind.result ≡ kind_at s.args.ids.now s.args.numbers.now s.args.i
 place c =
     let s = start (id_next c) in
-    let p = (kind-written c).before.before in
-    place_is (value s.args.numbers.now (9 * s.args.i)) (sfits_of p.before.place-of-arg.given) p.place_of.ensures
+    let p = (kind-written c).before in
+    place_is (value s.args.numbers.now (9 * s.args.i)) (sfits_of p.place-of-arg.given) p.place_of.ensures
 
-kind-laid : (c : tie.After-next-of2) → TextLaid (kind (start (id_next c))) (id-written (id_next c)).write-text-line.new.0 (id_next c).next_of.result (kind-written c).put-kind.new.0 c.next-of2.result
+kind-laid : (c : tie.After-next_of-after) → TextLaid (kind (start (id_next c))) (id-written (id_next c)).write_text_line.new.buffer (id_next c).next_of-next.result (kind-written c).put_kind.new.buffer c.next_of-after.result
 kind-laid c =
     let n = id_next c in
     let same = ap (λ (place : ℕ). bytes "kind=" ++ (written_word kind_words place ++ (10 ∷ []))) (place c) in
-    laid_as same (laid_of (kind-written c).put-kind.ensures c.next-of2.ensures (omega (arith, ap length same, fits (start n), (id-laid n).ends, (id-written n).write-text-line.kept.0)))
+    laid_as same (laid_of (kind-written c).put_kind.ensures c.next_of-after.ensures (omega (arith, ap length same, fits (start (c.before.before.before.before.before.before.before)), (id-laid (c.before.before.before.before.before.before.before)).ends, (id-written (c.before.before.before.before.before.before.before)).write_text_line.auto.0)))
 
 -- the lines behind it, as they are handed over
-values_same : (c : tie.After-next-of2) → let s = start (id_next c) in let numbers = s.args.numbers.now in
-    text_of (lines_of_kind (kind-written c).before.before.place_of.result (row_of (take (length numbers - 9 * s.args.i) (drop (9 * s.args.i) numbers)))) ≡ values s
+values_same : (c : tie.After-next_of-after) → let s = start (id_next c) in let numbers = s.args.numbers.now in
+    text_of (lines_of_kind (kind-written c).place_of-kind.result (row_of (take (length numbers - 9 * s.args.i) (drop (9 * s.args.i) numbers)))) ≡ values s
 values_same c =
     let s = start (id_next c) in
     ap₂ (λ (place : ℕ) (held : List ℤ). text_of (lines_of_kind place (row_of held))) (place c) (rest_whole s.args.numbers.now (9 * s.args.i))
 
-mul-put-values : tie.Need-overflow-mul-put-values
+mul-put-values : tie.Need-overflow_mul-i-3
 mul-put-values c = omega arith
 
-mul-put-values-2 : tie.Need-overflow-mul-put-values-2
+mul-put-values-2 : tie.Need-offset_bounds-numbers-i-2
 mul-put-values-2 c = omega arith
 
-sub-put-values : tie.Need-overflow-sub-put-values
+sub-put-values : tie.Need-slice_bounds-put_values-count
 sub-put-values c = omega arith
 
-part-put-values-start : tie.Need-slice-bounds-put-values-start
+part-put-values-start : tie.Need-slice_bounds-put_values-start
 part-put-values-start c = omega arith
 
-part-put-values-end : tie.Need-slice-bounds-put-values-end
+part-put-values-end : tie.Need-slice_bounds-put_values-end
 part-put-values-end c = omega arith
 
-put-values-requires : tie.Need-put-values-requires
+put-values-requires : tie.Need-put_values-requires
 put-values-requires c κs =
-    let d = c.before.before in
-    let n = id_next d in
-    let s = start n in
+    let d = c in
+    let n = id_next (c.before.before) in
+    let s = start (c.before.before.before.before.before.before.before.before.before) in
     let numbers = s.args.numbers.now in (
-      rw (rest_whole numbers (9 * s.args.i)) (omega (arith, s.pre.1, length-drop (9 * s.args.i) numbers)),
-      omega (arith, ap length (values_same d), fits s, (id-laid n).ends, (id-written n).write-text-line.kept.0, (kind-laid d).ends, (kind-written d).put-kind.auto.0),
+      rw (rest_whole numbers (9 * s.args.i)) (omega (arith, s.requires.1, length-drop (9 * s.args.i) numbers)),
+      omega (arith, ap length (values_same (c.before.before)), fits s, (id-laid (c.before.before.before.before.before.before.before.before.before)).ends, (id-written (c.before.before.before.before.before.before.before.before.before)).write_text_line.auto.0, (kind-laid (c.before.before)).ends, (kind-written (c.before.before)).put_kind.auto.0),
     )
 
-same_length : tie.Need-same-length
+same_length : tie.Need-shape_of-buffer
 same_length c =
-    let v = c.before.before in
-    let d = v.before.before.before in
-    v.put-values.auto.0 ∙ (kind-written d).put-kind.auto.0 ∙ (id-written (id_next d)).write-text-line.auto.0
+    let v = c in
+    let d = v in
+    v.put_values.auto.buffer ∙ (kind-written (c.before.before.before.before.before)).put_kind.auto.buffer ∙ (id-written (id_next (c.before.before.before.before.before))).write_text_line.auto.buffer
 
 returns : tie.Need-returns
 returns c =
-    let v = c.before.before in
-    let d = v.before.before.before in
-    let n = id_next d in
-    let s = start n in
+    let v = c in
+    let d = v in
+    let n = id_next (c.before.before.before.before.before) in
+    let s = start (c.before.before.before.before.before.before.before.before.before.before.before.before) in
     rw (row_text_lem s.args.ids.now s.args.numbers.now s.args.i)
-    (laid_both (id-laid n)
-    (laid_both (kind-laid d) (laid_as (values_same d) v.put-values.ensures) (omega (arith, fits s, (id-laid n).ends, (id-written n).write-text-line.kept.0)))
+    (laid_both (id-laid (c.before.before.before.before.before.before.before.before.before.before.before.before))
+    (laid_both (kind-laid (c.before.before.before.before.before)) (laid_as (values_same (c.before.before.before.before.before)) v.put_values.ensures) (omega (arith, fits s, (id-laid (c.before.before.before.before.before.before.before.before.before.before.before.before)).ends, (id-written (c.before.before.before.before.before.before.before.before.before.before.before.before)).write_text_line.auto.0)))
     (omega (arith, fits s)))
 
-pub put-row-spec : {M : Type 1} → statement M
-put-row-spec =
+pub put_row_spec : {M : Type 1} → statement M
+put_row_spec =
     tie.close
     (tie.spec
-    slice-aggregate-write-text-line
     mul-id-at
     id-at-requires
     write-text-line-requires

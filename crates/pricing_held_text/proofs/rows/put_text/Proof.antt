@@ -27,73 +27,69 @@ module _ (s : tie.Start) where
   rows = rows_text (rows_from s.args.ids.now s.args.numbers.now 0 (held_count s.args.ids.now s.args.numbers.now))
 
   fits : length header + length rows ≤ length s.args.buffer.now
-  fits = omega (arith, s.pre.1, ap length (whole_text s.args.header.now s.args.ids.now s.args.numbers.now), length-append header rows)
+  fits = omega (arith, s.requires.1, ap length (whole_text s.args.header.now s.args.ids.now s.args.numbers.now), length-append header rows)
 
-held-count-requires : tie.Need-held-count-requires
+held-count-requires : tie.Need-held_count-count-requires
 held-count-requires c κs = tt
 
-header-values-requires : tie.Need-header-values-requires
-header-values-requires c κs = omega (arith, c.held-count.ensures, c.before.before.before.requires.0)
+header-values-requires : tie.Need-header_values-values-requires
+header-values-requires c κs = omega (arith, c.held_count-count.ensures, c.requires.0)
 
-slice-aggregate-write-lines : tie.Need-slice-aggregate-write-lines
-slice-aggregate-write-lines c = search rules
-
-slice-aggregate-write-lines-2 : tie.Need-slice-aggregate-write-lines-2
+slice-aggregate-write-lines-2 : tie.Need-slice_bounds-write_lines-end-2
 slice-aggregate-write-lines-2 c = search rules
 
-write-lines-requires : tie.Need-write-lines-requires
+write-lines-requires : tie.Need-write_lines-ended-requires
 write-lines-requires c κs = tt
 
-next-of-requires : tie.Need-next-of-requires
+next-of-requires : tie.Need-next_of-requires
 next-of-requires c κs = tt
 
 -- where the header is written, where the rows are counted, and the start
-abbrev written : tie.After-next-of → tie.After-write-lines
+abbrev written : tie.After-next_of → tie.After-write_lines-ended
 written c = c.before.before.before.before
 
-abbrev counted : tie.After-next-of → tie.After-held-count
-counted c = (written c).before.before.before.before.before
+abbrev counted : tie.After-next_of → tie.After-held_count-count
+counted c = c.before.before.before.before.before.before.before.before.before.before
 
-abbrev start : tie.After-next-of → tie.Start
-start c = (counted c).before.before.before
+abbrev start : tie.After-next_of → tie.Start
+start c = c.before.before.before.before.before.before.before.before.before.before.before.before.before
 
-laid : (c : tie.After-next-of) → TextLaid (header (start c)) (start c).args.buffer.now 0 (written c).write-lines.new.0 c.next_of.result
+laid : (c : tie.After-next_of) → TextLaid (header (start c)) (start c).args.buffer.now 0 (written c).write_lines-ended.new.buffer c.next_of.result
 laid c =
     let s = start c in
     let same =
     ap (λ (values : List ℤ). written_numbers (keys_of (bytes "month=hour=lambda=factor=prc=eea1=short=count=")) values)
-    ((written c).before.before.before.before.header-values.ensures ∙ ap (λ (count : ℕ). header_values (header_held s.args.header.now count)) (counted c).held-count.ensures) in
-    laid_as same (laid_of (written c).write-lines.ensures c.next_of.ensures (omega (arith, ap length same, fits s)))
+    ((written c).header_values-values.ensures ∙ ap (λ (count : ℕ). header_values (header_held s.args.header.now count)) (counted c).held_count-count.ensures) in
+    laid_as same (laid_of (written c).write_lines-ended.ensures c.next_of.ensures (omega (arith, ap length same, fits s)))
 
-put-rows-requires : tie.Need-put-rows-requires
+put-rows-requires : tie.Need-put_rows-requires
 put-rows-requires c κs =
     let s = start c in
-    let count = (counted c).held-count.ensures in (
+    let count = (counted c).held_count-count.ensures in (
       omega (arith, count),
-      omega (arith, ap (λ (count : ℕ). length (rows_text (rows_from s.args.ids.now s.args.numbers.now 0 count))) count, fits s, (laid c).ends, (written c).write-lines.auto.0),
+      omega (arith, ap (λ (count : ℕ). length (rows_text (rows_from s.args.ids.now s.args.numbers.now 0 count))) count, fits s, (laid c).ends, (written c).write_lines-ended.auto.buffer),
     )
 
-same_length : tie.Need-same-length
+same_length : tie.Need-shape_of-buffer
 same_length c =
-    let r = c.before.before in
-    r.put-rows.auto.0 ∙ (written r.before).write-lines.auto.0
+    let r = c in
+    r.put_rows.auto.buffer ∙ (written (c.before.before.before)).write_lines-ended.auto.buffer
 
 returns : tie.Need-returns
 returns c =
-    let r = c.before.before in
-    let n = r.before in
-    let s = start n in
-    let same = ap (λ (count : ℕ). rows_text (rows_from s.args.ids.now s.args.numbers.now 0 count)) (counted n).held-count.ensures in
+    let r = c in
+    let n = r in
+    let s = start (c.before.before.before) in
+    let same = ap (λ (count : ℕ). rows_text (rows_from s.args.ids.now s.args.numbers.now 0 count)) (counted (c.before.before.before)).held_count-count.ensures in
     rw (whole_text s.args.header.now s.args.ids.now s.args.numbers.now)
-    (laid_both (laid n) (laid_as same (record { ends = refl; bytes = r.put-rows.ensures })) (omega (arith, fits s))).bytes
+    (laid_both (laid (c.before.before.before)) (laid_as same (record { ends = refl; bytes = r.put_rows.ensures })) (omega (arith, fits s))).bytes
 
-pub put-text-spec : {M : Type 1} → statement M
-put-text-spec =
+pub put_text_spec : {M : Type 1} → statement M
+put_text_spec =
     tie.close
     (tie.spec
     held-count-requires
     header-values-requires
-    slice-aggregate-write-lines
     slice-aggregate-write-lines-2
     write-lines-requires
     next-of-requires

@@ -5,27 +5,27 @@ use Rattle.pricing_held_text.proofs.Listed.{none_below}
 use Rattle.pricing_held_text.proofs.words.kind_length.Statement.{statement}
 use Rattle.pricing_held_text.proofs.words.kind_length.Tie as tie
 
-returns : tie.Need-returns
-returns c = rw (written_listed kind_words c.before.args.kind, c.match.keys1)
+returns : tie.Need-returns-in-0
+returns c = rw (written_listed kind_words c.args.kind, c.in-0.is)
 
-returns-2 : tie.Need-returns-2
-returns-2 c = rw (written_listed kind_words c.before.args.kind, c.match.keys2)
+returns-2 : tie.Need-returns-in-1
+returns-2 c = rw (written_listed kind_words c.args.kind, c.in-1.is)
 
-returns-3 : tie.Need-returns-3
-returns-3 c = rw (written_listed kind_words c.before.args.kind, c.match.keys3)
+returns-3 : tie.Need-returns-in-2
+returns-3 c = rw (written_listed kind_words c.args.kind, c.in-2.is)
 
-returns-4 : tie.Need-returns-4
-returns-4 c = rw (written_listed kind_words c.before.args.kind, c.match.keys4)
+returns-4 : tie.Need-returns-in-3
+returns-4 c = rw (written_listed kind_words c.args.kind, c.in-3.is)
 
-returns-5 : tie.Need-returns-5
-returns-5 c = rw (written_listed kind_words c.before.args.kind, c.match.keys5)
+returns-5 : tie.Need-returns-in-4
+returns-5 c = rw (written_listed kind_words c.args.kind, c.in-4.is)
 
-returns-6 : tie.Need-returns-6
-returns-6 c = rw (written_listed kind_words c.before.args.kind, c.match.keys6)
+returns-6 : tie.Need-returns-in-5
+returns-6 c = rw (written_listed kind_words c.args.kind, c.in-5.is)
 
-returns-7 : tie.Need-returns-7
-returns-7 c = rw (word_past kind_words c.before.args.kind (none_below 6 _ c.match.rest))
+returns-7 : tie.Need-returns-in_default
+returns-7 c = rw (word_past kind_words c.args.kind (none_below 6 _ c.in_default.rest))
 
-pub kind-length-spec : {M : Type 1} → statement M
-kind-length-spec =
+pub kind_length_spec : {M : Type 1} → statement M
+kind_length_spec =
     tie.close (tie.spec returns returns-2 returns-3 returns-4 returns-5 returns-6 returns-7)

@@ -6,177 +6,113 @@ use Rattle.pricing_held_text.proofs.Listed.{none_below}
 use Rattle.pricing_held_text.proofs.words.put_status.Statement.{statement}
 use Rattle.pricing_held_text.proofs.words.put_status.Tie as tie
 
-slice-aggregate-write-text-line : tie.Need-slice-aggregate-write-text-line
-slice-aggregate-write-text-line c = search rules
-
-slice-aggregate-write-text-line-2 : tie.Need-slice-aggregate-write-text-line-2
-slice-aggregate-write-text-line-2 c = search rules
-
-write-text-line-requires : tie.Need-write-text-line-requires
+write-text-line-requires : tie.Need-write_text_line-requires
 write-text-line-requires c κs = tt
 
-slice-aggregate-write-text-line-3 : tie.Need-slice-aggregate-write-text-line-3
-slice-aggregate-write-text-line-3 c = search rules
-
-slice-aggregate-write-text-line-4 : tie.Need-slice-aggregate-write-text-line-4
-slice-aggregate-write-text-line-4 c = search rules
-
-write-text-line-requires-2 : tie.Need-write-text-line-requires-2
+write-text-line-requires-2 : tie.Need-write_text_line-requires-in-1
 write-text-line-requires-2 c κs = tt
 
-slice-aggregate-write-text-line-5 : tie.Need-slice-aggregate-write-text-line-5
-slice-aggregate-write-text-line-5 c = search rules
-
-slice-aggregate-write-text-line-6 : tie.Need-slice-aggregate-write-text-line-6
-slice-aggregate-write-text-line-6 c = search rules
-
-write-text-line-requires-3 : tie.Need-write-text-line-requires-3
+write-text-line-requires-3 : tie.Need-write_text_line-requires-in-2
 write-text-line-requires-3 c κs = tt
 
-slice-aggregate-write-text-line-7 : tie.Need-slice-aggregate-write-text-line-7
-slice-aggregate-write-text-line-7 c = search rules
-
-slice-aggregate-write-text-line-8 : tie.Need-slice-aggregate-write-text-line-8
-slice-aggregate-write-text-line-8 c = search rules
-
-write-text-line-requires-4 : tie.Need-write-text-line-requires-4
+write-text-line-requires-4 : tie.Need-write_text_line-requires-in-3
 write-text-line-requires-4 c κs = tt
 
-slice-aggregate-write-text-line-9 : tie.Need-slice-aggregate-write-text-line-9
-slice-aggregate-write-text-line-9 c = search rules
-
-slice-aggregate-write-text-line-10 : tie.Need-slice-aggregate-write-text-line-10
-slice-aggregate-write-text-line-10 c = search rules
-
-write-text-line-requires-5 : tie.Need-write-text-line-requires-5
+write-text-line-requires-5 : tie.Need-write_text_line-requires-in-4
 write-text-line-requires-5 c κs = tt
 
-slice-aggregate-write-text-line-11 : tie.Need-slice-aggregate-write-text-line-11
-slice-aggregate-write-text-line-11 c = search rules
-
-slice-aggregate-write-text-line-12 : tie.Need-slice-aggregate-write-text-line-12
-slice-aggregate-write-text-line-12 c = search rules
-
-write-text-line-requires-6 : tie.Need-write-text-line-requires-6
+write-text-line-requires-6 : tie.Need-write_text_line-requires-in-5
 write-text-line-requires-6 c κs = tt
 
-slice-aggregate-write-text-line-13 : tie.Need-slice-aggregate-write-text-line-13
-slice-aggregate-write-text-line-13 c = search rules
-
-slice-aggregate-write-text-line-14 : tie.Need-slice-aggregate-write-text-line-14
-slice-aggregate-write-text-line-14 c = search rules
-
-write-text-line-requires-7 : tie.Need-write-text-line-requires-7
+write-text-line-requires-7 : tie.Need-write_text_line-requires-in-6
 write-text-line-requires-7 c κs = tt
 
-slice-aggregate-write-text-line-15 : tie.Need-slice-aggregate-write-text-line-15
-slice-aggregate-write-text-line-15 c = search rules
-
-slice-aggregate-write-text-line-16 : tie.Need-slice-aggregate-write-text-line-16
-slice-aggregate-write-text-line-16 c = search rules
-
-write-text-line-requires-8 : tie.Need-write-text-line-requires-8
+write-text-line-requires-8 : tie.Need-write_text_line-requires-in_default
 write-text-line-requires-8 c κs = tt
 
-same_length : tie.Need-same-length
-same_length c = c.before.before.write-text-line.auto.0
+same_length : tie.Need-shape_of-buffer-in-0
+same_length c = c.write_text_line.auto.buffer
 
-returns : tie.Need-returns
+returns : tie.Need-returns-in-0
 returns c =
-    let line = c.before.before in
-    let way = line.before.before.before.before in
-    rw (written_listed status_words way.before.before.args.status, way.match.keys1) line.write-text-line.ensures
+    let line = c in
+    let way = line in
+    rw (written_listed status_words way.args.status, way.in-0.is) line.write_text_line.ensures
 
-same-length-2 : tie.Need-same-length-2
-same-length-2 c = c.before.before.write-text-line2.auto.0
+same-length-2 : tie.Need-shape_of-buffer-in-1
+same-length-2 c = c.write_text_line-in-1.auto.buffer
 
-returns-2 : tie.Need-returns-2
+returns-2 : tie.Need-returns-in-1
 returns-2 c =
-    let line = c.before.before in
-    let way = line.before.before.before.before in
-    rw (written_listed status_words way.before.before.args.status, way.match.keys2) line.write-text-line2.ensures
+    let line = c in
+    let way = line in
+    rw (written_listed status_words way.args.status, way.in-1.is) line.write_text_line-in-1.ensures
 
-same-length-3 : tie.Need-same-length-3
-same-length-3 c = c.before.before.write-text-line3.auto.0
+same-length-3 : tie.Need-shape_of-buffer-in-2
+same-length-3 c = c.write_text_line-in-2.auto.buffer
 
-returns-3 : tie.Need-returns-3
+returns-3 : tie.Need-returns-in-2
 returns-3 c =
-    let line = c.before.before in
-    let way = line.before.before.before.before in
-    rw (written_listed status_words way.before.before.args.status, way.match.keys3) line.write-text-line3.ensures
+    let line = c in
+    let way = line in
+    rw (written_listed status_words way.args.status, way.in-2.is) line.write_text_line-in-2.ensures
 
-same-length-4 : tie.Need-same-length-4
-same-length-4 c = c.before.before.write-text-line4.auto.0
+same-length-4 : tie.Need-shape_of-buffer-in-3
+same-length-4 c = c.write_text_line-in-3.auto.buffer
 
-returns-4 : tie.Need-returns-4
+returns-4 : tie.Need-returns-in-3
 returns-4 c =
-    let line = c.before.before in
-    let way = line.before.before.before.before in
-    rw (written_listed status_words way.before.before.args.status, way.match.keys4) line.write-text-line4.ensures
+    let line = c in
+    let way = line in
+    rw (written_listed status_words way.args.status, way.in-3.is) line.write_text_line-in-3.ensures
 
-same-length-5 : tie.Need-same-length-5
-same-length-5 c = c.before.before.write-text-line5.auto.0
+same-length-5 : tie.Need-shape_of-buffer-in-4
+same-length-5 c = c.write_text_line-in-4.auto.buffer
 
-returns-5 : tie.Need-returns-5
+returns-5 : tie.Need-returns-in-4
 returns-5 c =
-    let line = c.before.before in
-    let way = line.before.before.before.before in
-    rw (written_listed status_words way.before.before.args.status, way.match.keys5) line.write-text-line5.ensures
+    let line = c in
+    let way = line in
+    rw (written_listed status_words way.args.status, way.in-4.is) line.write_text_line-in-4.ensures
 
-same-length-6 : tie.Need-same-length-6
-same-length-6 c = c.before.before.write-text-line6.auto.0
+same-length-6 : tie.Need-shape_of-buffer-in-5
+same-length-6 c = c.write_text_line-in-5.auto.buffer
 
-returns-6 : tie.Need-returns-6
+returns-6 : tie.Need-returns-in-5
 returns-6 c =
-    let line = c.before.before in
-    let way = line.before.before.before.before in
-    rw (written_listed status_words way.before.before.args.status, way.match.keys6) line.write-text-line6.ensures
+    let line = c in
+    let way = line in
+    rw (written_listed status_words way.args.status, way.in-5.is) line.write_text_line-in-5.ensures
 
-same-length-7 : tie.Need-same-length-7
-same-length-7 c = c.before.before.write-text-line7.auto.0
+same-length-7 : tie.Need-shape_of-buffer-in-6
+same-length-7 c = c.write_text_line-in-6.auto.buffer
 
-returns-7 : tie.Need-returns-7
+returns-7 : tie.Need-returns-in-6
 returns-7 c =
-    let line = c.before.before in
-    let way = line.before.before.before.before in
-    rw (written_listed status_words way.before.before.args.status, way.match.keys7) line.write-text-line7.ensures
+    let line = c in
+    let way = line in
+    rw (written_listed status_words way.args.status, way.in-6.is) line.write_text_line-in-6.ensures
 
-same-length-8 : tie.Need-same-length-8
-same-length-8 c = c.before.before.write-text-line8.auto.0
+same-length-8 : tie.Need-shape_of-buffer-in_default
+same-length-8 c = c.write_text_line-in_default.auto.buffer
 
-returns-8 : tie.Need-returns-8
+returns-8 : tie.Need-returns-in_default
 returns-8 c =
-    let line = c.before.before in
-    let way = line.before.before.before.before in
-    rw (word_past status_words way.before.before.args.status (none_below 7 _ way.match.rest)) line.write-text-line8.ensures
+    let line = c in
+    let way = line in
+    rw (word_past status_words way.args.status (none_below 7 _ way.in_default.rest)) line.write_text_line-in_default.ensures
 
-pub put-status-spec : {M : Type 1} → statement M
-put-status-spec =
+pub put_status_spec : {M : Type 1} → statement M
+put_status_spec =
     tie.close
     (tie.spec
-    slice-aggregate-write-text-line
-    slice-aggregate-write-text-line-2
     write-text-line-requires
-    slice-aggregate-write-text-line-3
-    slice-aggregate-write-text-line-4
     write-text-line-requires-2
-    slice-aggregate-write-text-line-5
-    slice-aggregate-write-text-line-6
     write-text-line-requires-3
-    slice-aggregate-write-text-line-7
-    slice-aggregate-write-text-line-8
     write-text-line-requires-4
-    slice-aggregate-write-text-line-9
-    slice-aggregate-write-text-line-10
     write-text-line-requires-5
-    slice-aggregate-write-text-line-11
-    slice-aggregate-write-text-line-12
     write-text-line-requires-6
-    slice-aggregate-write-text-line-13
-    slice-aggregate-write-text-line-14
     write-text-line-requires-7
-    slice-aggregate-write-text-line-15
-    slice-aggregate-write-text-line-16
     write-text-line-requires-8
     same_length
     returns

@@ -17,23 +17,23 @@ last-held buffer held some inside =
     let long : length (take held buffer) ≡ held = length-take-le held buffer inside in
     line_start (take held buffer) (omega arith) ∙ rw (long, get_or-take held buffer (held - 1) 0 (omega arith)) refl
 
-returns : tie.Need-returns
-returns c = rw (ne_eqb c.before.args.byte 10 c.if1.true)
+returns : tie.Need-returns-then-byte-ne10
+returns c = rw (ne_eqb c.args.byte 10 c.if-byte-ne10.true)
 
-returns-2 : tie.Need-returns-2
-returns-2 c = rw (eq-eqb c.before.before.args.byte 10 c.before.if1.false, c.if2.true) (sym (no_bytes [] refl))
+returns-2 : tie.Need-returns-then-held-eq0
+returns-2 c = rw (eq-eqb c.args.byte 10 c.if-byte-ne10.false, c.if-held-eq0.true) (sym (no_bytes [] refl))
 
-sub-result : tie.Need-overflow-sub-result
+sub-result : tie.Need-overflow_sub-result
 sub-result c = omega arith
 
-element-copy-out-result : tie.Need-element-copy-out-result
+element-copy-out-result : tie.Need-bounds-buffer-held
 element-copy-out-result c = omega arith
 
-returns-3 : tie.Need-returns-3
+returns-3 : tie.Need-returns
 returns-3 c =
-    let s = c.before.before.before in
-    rw (eq-eqb s.args.byte 10 c.before.before.if1.false) (sym (last-held s.args.buffer.now s.args.held (omega arith) (omega arith)))
+    let s = c in
+    rw (eq-eqb s.args.byte 10 c.if-byte-ne10.false) (sym (last-held s.args.buffer.now s.args.held (omega arith) (omega arith)))
 
-pub ends-hour-spec : {M : Type 1} → statement M
-ends-hour-spec =
+pub ends_hour_spec : {M : Type 1} → statement M
+ends_hour_spec =
     tie.close (tie.spec returns returns-2 sub-result element-copy-out-result returns-3)

@@ -12,21 +12,21 @@ line-ends : (line : ℕ) (held : List ℕ) (byte : ℕ) → (line ≡ 0 → ⊥)
 line-ends zero held byte other = absurd (other refl)
 line-ends (suc line) held byte other = refl
 
-returns : tie.Need-returns
-returns c = rw (eq-eqb c.before.args.held 65536 c.if1.true)
+returns : tie.Need-returns-then-held-eq-MOST_BYTES
+returns c = rw (eq-eqb c.args.held 65536 c.if-held-eq-MOST_BYTES.true)
 
-returns-2 : tie.Need-returns-2
+returns-2 : tie.Need-returns-then-line-ne0
 returns-2 c =
-    let s = c.before.before in
-    rw (ne_eqb s.args.held 65536 c.before.if1.false, line-ends s.args.line _ s.args.byte c.if2.true)
+    let s = c in
+    rw (ne_eqb s.args.held 65536 c.if-held-eq-MOST_BYTES.false, line-ends s.args.line _ s.args.byte c.if-line-ne0.true)
 
-ends-hour-requires : tie.Need-ends-hour-requires
-ends-hour-requires c κs = c.before.before.requires
+ends-hour-requires : tie.Need-ends_hour-requires
+ends-hour-requires c κs = c.requires
 
-returns-3 : tie.Need-returns-3
+returns-3 : tie.Need-returns
 returns-3 c =
-    let s = c.before.before.before in
-    rw (ne_eqb s.args.held 65536 c.before.before.if1.false, c.before.if2.false) c.ends-hour.ensures
+    let s = c in
+    rw (ne_eqb s.args.held 65536 c.if-held-eq-MOST_BYTES.false, c.if-line-ne0.false) c.ends_hour.ensures
 
-pub stops-spec : {M : Type 1} → statement M
-stops-spec = tie.close (tie.spec returns returns-2 ends-hour-requires returns-3)
+pub stops_spec : {M : Type 1} → statement M
+stops_spec = tie.close (tie.spec returns returns-2 ends-hour-requires returns-3)

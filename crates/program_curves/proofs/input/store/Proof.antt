@@ -6,43 +6,43 @@ use native.Mathlib.Omega.{arith}
 use Rattle.program_curves.proofs.input.store.Statement.{statement}
 use Rattle.program_curves.proofs.input.store.Tie as tie
 
-abbrev invariant-loop : tie.invariant-loop
+abbrev invariant-loop : tie.invariant-loop-next
 invariant-loop line held₀ buffer₀ input from next₀ held buffer next = Storing line buffer₀ input from held₀ buffer held next
 
-abbrev decreases-loop : tie.decreases-loop
+abbrev decreases-loop : tie.decreases-loop-next
 decreases-loop line held₀ buffer₀ input from next₀ held buffer next = length input - next
 
-loop-holds : tie.Need-loop-init invariant-loop decreases-loop
-loop-holds c = let s = c.before in storing_none s.args.line s.args.buffer.now s.args.input.now s.args.from s.args.held s.requires.0 s.requires.1 s.requires.2
+loop-holds : tie.Need-loop-next-init invariant-loop decreases-loop
+loop-holds c = let s = c in storing_none s.args.line s.args.buffer.now s.args.input.now s.args.from s.args.held s.requires.0 s.requires.1 s.requires.2
 
-shared-slice-read-byte : tie.Need-shared-slice-read-byte invariant-loop decreases-loop
+shared-slice-read-byte : tie.Need-bounds-input-next invariant-loop decreases-loop
 shared-slice-read-byte c = omega arith
 
 stops-requires : tie.Need-stops-requires invariant-loop decreases-loop
-stops-requires c κs = let l = c.before.before.before in (l.loop.invariant.room, l.loop.invariant.within)
+stops-requires c κs = let l = c in (l.loop-next.invariant.room, l.loop-next.invariant.within)
 
-returns : tie.Need-returns invariant-loop decreases-loop
-returns c = let l = c.before.before.before.before.before in (stored l.loop.invariant, λ inside. sym c.before.stops.ensures ∙ c.if1.true)
+returns : tie.Need-returns-then-stops invariant-loop decreases-loop
+returns c = let l = c in (stored l.loop-next.invariant, λ inside. sym c.stops.ensures ∙ c.if-stops.true)
 
-element-write-buffer : tie.Need-element-write-buffer invariant-loop decreases-loop
+element-write-buffer : tie.Need-bounds-buffer-held invariant-loop decreases-loop
 element-write-buffer c =
-    let l = c.before.before.before.before.before in
-    room_left l.before.before.args.line l.loop.held l.loop.buffer _ l.loop.invariant.within (sym c.before.stops.ensures ∙ c.if1.false)
+    let l = c in
+    room_left l.args.line l.loop-next.held l.loop-next.buffer _ l.loop-next.invariant.within (sym c.stops.ensures ∙ c.if-stops.false)
 
-add-held : tie.Need-overflow-add-held invariant-loop decreases-loop
-add-held c = omega (arith, c.before.before.before.before.before.loop.invariant.within)
+add-held : tie.Need-overflow_add-held invariant-loop decreases-loop
+add-held c = omega (arith, c.loop-next.invariant.within)
 
-add-next : tie.Need-overflow-add-next invariant-loop decreases-loop
+add-next : tie.Need-overflow_add-next invariant-loop decreases-loop
 add-next c = omega arith
 
-loop-less : tie.Need-loop-smaller invariant-loop decreases-loop
+loop-less : tie.Need-loop-next-smaller invariant-loop decreases-loop
 loop-less c = omega arith
 
-loop-again : tie.Need-loop-preserved invariant-loop decreases-loop
-loop-again c = let l = c.before.before.before.before.before in storing_on l.loop.invariant (omega arith) (sym c.before.stops.ensures ∙ c.if1.false)
+loop-again : tie.Need-loop-next-preserved invariant-loop decreases-loop
+loop-again c = let l = c in storing_on l.loop-next.invariant (omega arith) (sym c.stops.ensures ∙ c.if-stops.false)
 
-returns-2 : tie.Need-returns-2 invariant-loop decreases-loop
-returns-2 c = let l = c.before in (stored l.loop.invariant, λ inside. absurd (omega arith))
+returns-2 : tie.Need-returns invariant-loop decreases-loop
+returns-2 c = let l = c in (stored l.loop-next.invariant, λ inside. absurd (omega arith))
 
 pub store_spec : {M : Type 1} → statement M
 store_spec =

@@ -8,32 +8,32 @@ use borrow.Author.Rules.{rules}
 use Rattle.program_curves.proofs.output.finish.Statement.{statement}
 use Rattle.program_curves.proofs.output.finish.Tie as tie
 
-enum_told : tie.Need-enum-told
-enum_told c = c.match.keys1
+enum_told : tie.Need-enum_told-1
+enum_told c = c.in-Hours-1.keys1
 
-ended-by-requires : tie.Need-ended-by-requires
+ended-by-requires : tie.Need-ended_by-end-requires
 ended-by-requires c κs = tt
 
-print-refusal-requires : tie.Need-print-refusal-requires
+print-refusal-requires : tie.Need-print_refusal-requires
 print-refusal-requires c κs = search rules
 
-returns : tie.Need-returns
+returns : tie.Need-returns-in_default
 returns c =
-    let s = c.before.before.before.before in
-    let other : s.args.stream.stage ≡ stage.Hours → ⊥ = λ here. miss (0 ∷ 1 ∷ 3 ∷ 4 ∷ []) 2 tt (rw here at c.before.before.before.match.keys2) in
-    rw (c.before.before.ended_by.ensures (state_of s.args.stream s.args.buffer.now) refl other) c.print-refusal.ensures
+    let s = c in
+    let other : s.args.stream.stage ≡ stage.Hours → ⊥ = c.in_default.not-Hours in
+    rw (c.ended_by-end.ensures (state_of s.args.stream s.args.buffer.now) refl other) c.print_refusal.ensures
 
 part-requires : tie.Need-part-requires
 part-requires c κs = tt
 
-print-hours-requires : tie.Need-print-hours-requires
+print-hours-requires : tie.Need-print_hours-requires
 print-hours-requires c κs = search rules
 
-returns-2 : tie.Need-returns-2
+returns-2 : tie.Need-returns
 unfolding finished
 returns-2 c =
-    let s = c.before.before.before.before.before.before in
-    rw c.before.before.before.before.enum_told.given.1 (rw (c.before.before.part.ensures, sub-zero s.args.stream.held) at c.print-hours.ensures)
+    let s = c in
+    rw c.in-Hours.is (rw (c.part.ensures, sub-zero s.args.stream.held) at c.print_hours.ensures)
 
 pub finish_spec : {M : Type 1} → statement M
 finish_spec =

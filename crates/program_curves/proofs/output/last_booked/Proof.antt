@@ -3,16 +3,16 @@ use Rattle.program_curves.proofs.Printing.{no_hour, one_hour}
 use Rattle.program_curves.proofs.output.last_booked.Statement.{statement}
 use Rattle.program_curves.proofs.output.last_booked.Tie as tie
 
-returns : tie.Need-returns
+returns : tie.Need-returns-then-hour-eq0
 unfolding hours_booked
-returns c = λ voll floor. rw (no_hour c.before.before.args.hour.now c.if1.true)
+returns c = λ voll floor. rw (no_hour c.args.hour.now c.if-hour-eq0.true)
 
 book-requires : tie.Need-book-requires
 book-requires c κs = tt
 
-returns-2 : tie.Need-returns-2
+returns-2 : tie.Need-returns
 unfolding hours_booked
-returns-2 c = λ voll floor. rw (one_hour c.before.before.before.args.hour.now c.before.if1.false, c.book.ensures)
+returns-2 c = λ voll floor. rw (one_hour c.args.hour.now c.if-hour-eq0.false, c.book.ensures)
 
-pub last-booked-spec : {M : Type 1} → statement M
-last-booked-spec = tie.close (tie.spec returns book-requires returns-2)
+pub last_booked_spec : {M : Type 1} → statement M
+last_booked_spec = tie.close (tie.spec returns book-requires returns-2)

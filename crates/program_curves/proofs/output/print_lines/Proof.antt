@@ -11,44 +11,44 @@ use borrow.Author.Rules.{rules}
 use Rattle.program_curves.proofs.output.print_lines.Statement.{statement}
 use Rattle.program_curves.proofs.output.print_lines.Tie as tie
 
-write-refusal-requires : tie.Need-write-refusal-requires
+write-refusal-requires : tie.Need-write_refusal-w-requires
 write-refusal-requires c κs = tt
 
-enum-known-w : tie.Need-enum-known-w
-enum-known-w c = c.match.keys1
+enum-known-w : tie.Need-enum_known-w
+enum-known-w c = c.in-Ended-1.keys1
 
-enum_told : tie.Need-enum-told
-enum_told c = c.match.keys2
+enum_told : tie.Need-enum_told-1
+enum_told c = c.in_default-1.keys2
 
-same_length : tie.Need-same-length
+same_length : tie.Need-shape_of-out-in_default
 same_length c = search rules
 
 short : (found : Refusal) (name out : List ℕ) → found.number < 2 ^ 64 → found.line < 2 ^ 64 → length name ≤ 6 → length out ≡ 768 →
     length (refusal_lines found name) ≤ length out
 short found name out number line small room = omega (arith, refusal_short found name number line (omega arith))
 
-returns : tie.Need-returns
+returns : tie.Need-returns-in_default
 returns c =
-    let s = c.before.before.before.before.before.before.before.before in
-    let w = c.before.before.before.before in
+    let s = c in
+    let w = c in
     absurd
-    (never_short (refusal_lines s.args.found s.args.name.now) s.args.out.now w.write-refusal.new.0 w.write-refusal.result
+    (never_short (refusal_lines s.args.found s.args.name.now) s.args.out.now w.write_refusal-w.new.buffer w.write_refusal-w.result
     (short s.args.found s.args.name.now s.args.out.now (omega arith) (omega arith) s.requires.1 s.requires.0)
-    w.write-refusal.ensures c.enum_told.given.1)
+    w.write_refusal-w.ensures c.in_default.is)
 
-same-length-2 : tie.Need-same-length-2
+same-length-2 : tie.Need-shape_of-out
 same-length-2 c = search rules
 
-returns-2 : tie.Need-returns-2
+returns-2 : tie.Need-returns
 returns-2 c =
-    let s = c.before.before.before.before.before.before.before.before.before in
-    let w = c.before.before.before.before.before in
-    text_printed (refusal_lines s.args.found s.args.name.now) s.args.out.now w.write-refusal.new.0 w.write-refusal.result
+    let s = c in
+    let w = c in
+    text_printed (refusal_lines s.args.found s.args.name.now) s.args.out.now w.write_refusal-w.new.buffer w.write_refusal-w.result
     (short s.args.found s.args.name.now s.args.out.now (omega arith) (omega arith) s.requires.1 s.requires.0)
-    w.write-refusal.ensures c.before.w.given.0.0 c.before.w.given.1
+    w.write_refusal-w.ensures c.in-Ended.next c.in-Ended.is
 
-pub print-lines-spec : {M : Type 1} → statement M
-print-lines-spec =
+pub print_lines_spec : {M : Type 1} → statement M
+print_lines_spec =
     tie.close
     (tie.spec
     write-refusal-requires

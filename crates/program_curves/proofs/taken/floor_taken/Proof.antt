@@ -19,33 +19,27 @@ use Rattle.program_curves.specs.declared.Stream.{Stream}
 use Rattle.program_curves.proofs.taken.floor_taken.Statement.{statement}
 use Rattle.program_curves.proofs.taken.floor_taken.Tie as tie
 
-slice-aggregate-line-value : tie.Need-slice-aggregate-line-value
-slice-aggregate-line-value c = refl
-
-line-value-requires : tie.Need-line-value-requires
+line-value-requires : tie.Need-line_value-value-requires
 line-value-requires c κs = tt
 
-number-of-requires : tie.Need-number-of-requires
+number-of-requires : tie.Need-number_of-n-requires
 number-of-requires c κs = tt
 
-enum-known-n : tie.Need-enum-known-n
-enum-known-n c = c.match.keys1
+enum-known-n : tie.Need-enum_known-n
+enum-known-n c = c.in-Value-1.keys1
 
-slice-aggregate-value-fault : tie.Need-slice-aggregate-value-fault
-slice-aggregate-value-fault c = refl
-
-number-refusal-requires : tie.Need-number-refusal-requires
+number-refusal-requires : tie.Need-number_refusal-requires
 number-refusal-requires c κs = tt
 
-value-fault-requires : tie.Need-value-fault-requires
+value-fault-requires : tie.Need-value_fault-fault-requires
 value-fault-requires c κs = tt
 
-line-refused-requires : tie.Need-line-refused-requires
+line-refused-requires : tie.Need-line_refused-requires
 line-refused-requires c κs = tt
 
 -- the text, seen from where the number was read
-abbrev text : tie.After-number-of → List ℕ
-text c = c.before.before.before.before.args.text.now
+abbrev text : tie.After-number_of-n → List ℕ
+text c = c.args.text.now
 
 -- the stream after a refused line, by the line's fault
 refused-by :
@@ -57,38 +51,36 @@ refused-by stream text n number_is found-is told is =
     ∙ ap (λ (f : Fault). stream_of (refused_settle (state_of stream []) f.number 2)) (found-is ∙ ap (value_fault (bytes "floor=") text 0) number_is)
     ∙ ap (λ (a : LineAnswer ℤ). stream_of (floor_taken (state_of stream []) a)) told
 
-returns : tie.Need-returns
+returns : tie.Need-returns-in_default
 returns c =
-    let fault = c.before in
-    let number = fault.before in
-    let other = number.before.before in
-    let read = other.before in
-    let found = number_refused (bytes "floor=") (text read) 0 (pos 0) (pos 20000000) read.before.line-value.ensures read.number_of_lem.ensures (not_taken read.number_of_lem.result other.match.keys2) in
-    refused-by read.before.before.before.before.args.stream (text read) read.number_of_lem.result number.number-refusal.ensures fault.value-fault.ensures found c.line_refused.ensures
+    let fault = c in
+    let number = fault in
+    let other = number in
+    let read = other in
+    let found = number_refused (bytes "floor=") (text (c.before.before.before.before.before.before)) 0 (pos 0) (pos 20000000) read.line_value-value.ensures read.number_of-n.ensures other.in_default.not-Value in
+    refused-by read.args.stream (text (c.before.before.before.before.before.before)) read.number_of-n.result number.number_refusal.ensures fault.value_fault-fault.ensures found c.line_refused.ensures
 
-at-stage-requires : tie.Need-at-stage-requires
+at-stage-requires : tie.Need-at_stage-requires
 at-stage-requires c κs = tt
 
 -- the value is read as it was stored
-value-bits : (c : tie.After-known-told) → let value = c.before.n.given.0.0 in to_z w64 (of_z w64 value) ≡ value
-value-bits c = to_z-of_z (record { sfits = c.known-told.given.0.1 })
+value-bits : (c : tie.In-Value) → let value = c.in-Value.floor in to_z w64 (of_z w64 value) ≡ value
+value-bits c = to_z-of_z {w = w64} (record { sfits = c.in-Value.known_told-1-own.given.0.1 })
 
-returns-2 : tie.Need-returns-2
+returns-2 : tie.Need-returns
 returns-2 c =
-    let known = c.before.before in
-    let read = known.before.before in
-    let found = number_got (bytes "floor=") (text read) 0 (pos 0) (pos 20000000) read.before.line-value.ensures read.number_of_lem.ensures known.n.given.1 in
-    rw (← found) (rw (value-bits c.before) at c.at_stage.ensures)
+    let known = c in
+    let read = known in
+    let found = number_got (bytes "floor=") (text (c.before.before.before)) 0 (pos 0) (pos 20000000) read.line_value-value.ensures read.number_of-n.ensures known.in-Value.is in
+    rw (← found) (rw (value-bits (c.before.before)) at c.at_stage.ensures)
 
-pub floor-taken-spec : {M : Type 1} → statement M
-floor-taken-spec =
+pub floor_taken_spec : {M : Type 1} → statement M
+floor_taken_spec =
     tie.close
     (tie.spec
-    slice-aggregate-line-value
     line-value-requires
     number-of-requires
     enum-known-n
-    slice-aggregate-value-fault
     number-refusal-requires
     value-fault-requires
     line-refused-requires
