@@ -16,16 +16,16 @@ use Rattle.pricing_held_reading.proofs.RowsRead.{header_stands}
 use Rattle.pricing_held_reading.proofs.lay_snapshot.Statement.{statement}
 use Rattle.pricing_held_reading.proofs.lay_snapshot.Tie as tie
 
-slice-aggregate-lay-numbers : tie.Need-slice-aggregate-lay-numbers
+slice-aggregate-lay-numbers : tie.Need-slice_bounds-lay_numbers-end
 slice-aggregate-lay-numbers c = refl
 
 lines : (c : tie.Start) → SnapshotLines c.args.text.now c.requires.header c.requires.entries
 lines c = snapshot_lines c.args.text.now c.requires.is
 
-lay-numbers-requires : tie.Need-lay-numbers-requires
+lay-numbers-requires : tie.Need-lay_numbers-laid-requires
 lay-numbers-requires c κs =
-    let s = c.before.before.before.before in
-    ((marked_by 0 (header_values s.requires.header), ((lines s).next, header_stands s.args.text.now (lines s).header_read)), search rules, search rules)
+    let s = c in
+    ((marked_by 0 (header_values s.requires.header), ((lines (c.before.before.before.before)).next, header_stands s.args.text.now (lines (c.before.before.before.before)).header_read)), search rules, search rules)
 
 moved :
     (text : List ℕ) {count due at next : ℕ} {entries : List Entry} {last : ℕ} → count ≡ due → at ≡ next → resources_at resource_at due [] text next ≡ got entries last →
@@ -33,44 +33,45 @@ moved :
 moved text counted ends e = rw (counted, ends) e
 
 -- the header was laid, and the resources start where it ends
-module _ (c : tie.After-lay-numbers) where
+module _ (c : tie.After-lay_numbers-laid) where
   abbrev start : tie.Start
   start = c.before.before.before.before.before
 
-  header-laid : (c.lay-numbers.result.next ≡ (lines start).next) × (c.lay-numbers.new.1.1.1.0 ≡ header_values start.pre.header)
+  header-laid : (c.lay_numbers-laid.result.next ≡ (lines start).next) × (c.lay_numbers-laid.new.row ≡ header_values start.requires.header)
   header-laid =
-      let said = c.lay-numbers.ensures (marked_by 0 (header_values start.pre.header)) (lines start).next (header_stands start.args.text.now (lines start).header_read) in
-      (ap (λ r. r.next) said.0, said.1 ∙ by_numbers 0 (header_values start.pre.header))
+      let said = c.lay_numbers-laid.ensures (marked_by 0 (header_values start.requires.header)) (lines start).next (header_stands start.args.text.now (lines start).header_read) in
+      (ap (λ r. r.next) said.0, said.1 ∙ by_numbers 0 (header_values start.requires.header))
 
-  rows-read : resources_at resource_at start.args.count [] start.args.text.now c.lay-numbers.result.next ≡ got start.pre.entries (lines start).last
-  rows-read = moved start.args.text.now start.pre.counted header-laid.0 (lines start).entries_read
+  rows-read : resources_at resource_at start.args.count [] start.args.text.now c.lay_numbers-laid.result.next ≡ got start.requires.entries (lines start).last
+  rows-read = moved start.args.text.now start.requires.counted header-laid.0 (lines start).entries_read
 
-lay-rows-requires : tie.Need-lay-rows-requires
+
+lay-rows-requires : tie.Need-lay_rows-requires
 lay-rows-requires c κs =
-    let n = c.before.before in
-    let s = start n in
-    (record { value = s.pre.entries; next = (lines s).last; is = rows-read n }, s.pre.id_room, s.pre.number_room)
+    let n = c in
+    let s = start (c.before.before) in
+    (record { value = s.requires.entries; next = (lines s).last; is = rows-read (c.before.before) }, s.requires.id_room, s.requires.number_room)
 
-same_length : tie.Need-same-length
+same_length : tie.Need-shape_of-ids
 same_length c = search rules
 
-same-length-2 : tie.Need-same-length-2
+same-length-2 : tie.Need-shape_of-numbers
 same-length-2 c = search rules
 
 returns : tie.Need-returns
 returns c =
-    let r = c.before.before.before in
-    let n = r.before.before.before in
-    let s = start n in
-    let says = r.lay-rows.ensures s.pre.entries (lines s).last (rows-read n) in
+    let r = c in
+    let n = r in
+    let s = start (c.before.before.before.before.before.before) in
+    let says = r.lay_rows.ensures s.requires.entries (lines s).last (rows-read (c.before.before.before.before.before.before)) in
     record {
-      header_is = (header-laid n).1 ∙ sym (ap header_read s.pre.is);
-      ids_are = says.0 ∙ sym (ap (λ (a : SnapshotAnswer). laid_over (id_rows (entries_read a)) s.args.ids.now) s.pre.is);
-      numbers_are = says.1 ∙ sym (ap (λ (a : SnapshotAnswer). laid_over (number_rows (entries_read a)) s.args.numbers.now) s.pre.is);
+      header_is = (header-laid (c.before.before.before.before.before.before)).1 ∙ sym (ap header_read s.requires.is);
+      ids_are = says.0 ∙ sym (ap (λ (a : SnapshotAnswer). laid_over (id_rows (entries_read a)) s.args.ids.now) s.requires.is);
+      numbers_are = says.1 ∙ sym (ap (λ (a : SnapshotAnswer). laid_over (number_rows (entries_read a)) s.args.numbers.now) s.requires.is);
     }
 
-pub lay-snapshot-spec : {M : Type 1} → statement M
-lay-snapshot-spec =
+pub lay_snapshot_spec : {M : Type 1} → statement M
+lay_snapshot_spec =
     tie.close
     (tie.spec
     slice-aggregate-lay-numbers

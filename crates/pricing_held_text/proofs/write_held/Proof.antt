@@ -21,9 +21,8 @@ returns : tie.Need-returns-in_default
 returns c =
     let lengthy = c in
     let a = lengthy.args in
-    let told = c.enum_told.given in
-    subst⁻¹ (λ (ended : HeldText). HeldWritten a.header.now a.ids.now a.numbers.now a.buffer.now a.buffer.now ended) told.1
-    (written_refused a.header.now a.ids.now a.numbers.now a.buffer.now (length_other a.header.now a.ids.now a.numbers.now (sym lengthy.held_length-found.ensures ∙ told.1)))
+    subst⁻¹ (λ (ended : HeldText). HeldWritten a.header.now a.ids.now a.numbers.now a.buffer.now a.buffer.now ended) c.in_default.is
+    (written_refused a.header.now a.ids.now a.numbers.now a.buffer.now (length_other a.header.now a.ids.now a.numbers.now (sym lengthy.held_length-found.ensures ∙ c.in_default.is)))
 
 -- the length that was told, seen from where it is known
 told : (c : tie.In-Length) → let a = c.args in LengthTold a.header.now a.ids.now a.numbers.now c.in-Length.length

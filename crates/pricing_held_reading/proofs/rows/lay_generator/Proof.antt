@@ -21,105 +21,106 @@ use Rattle.pricing_held_reading.proofs.rows.lay_generator.Tie as tie
 stands : (c : tie.Start) → GeneratorStands c.args.text.now c.args.kind c.args.at c.requires.1.value c.requires.1.next
 stands c = generator_stands c.args.text.now c.args.kind c.args.at c.requires.0 c.requires.1.is
 
-status-at-requires : tie.Need-status-at-requires
-status-at-requires c κs = let g = stands c.before in (record { value = g.status; next = g.middle; is = g.status_read }, g.status_inside)
+status-at-requires : tie.Need-status_at-status-requires
+status-at-requires c κs = let g = stands (c.before) in (record { value = g.status; next = g.middle; is = g.status_read }, g.status_inside)
 
 -- its status and where its numbers start, as the code has them
-module _ (c : tie.After-status-at) {one : Resource} {next : ℕ} (g : GeneratorStands c.before.before.args.text.now c.before.before.args.kind c.before.before.args.at one next) where
-  same : (c.status-at.result.index ≡ g.status) × (c.status-at.result.next ≡ g.middle)
-  same = got_same c.status-at.ensures g.status_read
+module _ (c : tie.After-status_at-status) {one : Resource} {next : ℕ} (g : GeneratorStands c.args.text.now c.args.kind c.args.at one next) where
+  same : (c.status_at-status.result.index ≡ g.status) × (c.status_at-status.result.next ≡ g.middle)
+  same = got_same c.status_at-status.ensures g.status_read
 
-  numbers-stand : NumbersStand c.before.before.args.text.now c.status-at.result.next (4 ∷ 4 ∷ 4 ∷ 5 ∷ 8 ∷ 7 ∷ []) g.numbers.values next
+  numbers-stand : NumbersStand c.args.text.now c.status_at-status.result.next (4 ∷ 4 ∷ 4 ∷ 5 ∷ 8 ∷ 7 ∷ []) g.numbers.values next
   numbers-stand = rw same.1 g.numbers.stand
 
-small : (c : tie.After-status-at) → c.status-at.result.index < 7
-small c = omega (arith, (same c (stands c.before.before)).0, (stands c.before.before).status_few)
+small : (c : tie.After-status_at-status) → c.status_at-status.result.index < 7
+small c = omega (arith, (same c (stands (c.before.before))).0, (stands (c.before.before)).status_few)
 
-cast-row : tie.Need-overflow-cast-row
+cast-row : tie.Need-overflow_cast-row
 cast-row c = search rules
 
-slice-set-from-row : tie.Need-slice-set-from-row
+slice-set-from-row : tie.Need-bounds-row-0
 slice-set-from-row c = search rules
 
-cast-row-2 : tie.Need-overflow-cast-row-2
+cast-row-2 : tie.Need-overflow_cast-row-2
 cast-row-2 c = record { sfits = omega (arith, small c) }
 
-slice-set-from-row-2 : tie.Need-slice-set-from-row-2
+slice-set-from-row-2 : tie.Need-bounds-row-1
 slice-set-from-row-2 c = search rules
 
-slice-aggregate-lay-numbers : tie.Need-slice-aggregate-lay-numbers
+slice-aggregate-lay-numbers : tie.Need-slice_bounds-lay_numbers-end
 slice-aggregate-lay-numbers c = search rules
 
-sub-lay-numbers : tie.Need-overflow-sub-lay-numbers
+sub-lay-numbers : tie.Need-slice_bounds-lay_numbers-count
 sub-lay-numbers c = search rules
 
-part-lay-numbers-start : tie.Need-slice-bounds-lay-numbers-start
+part-lay-numbers-start : tie.Need-slice_bounds-lay_numbers-start
 part-lay-numbers-start c = search rules
 
-part-lay-numbers-end : tie.Need-slice-bounds-lay-numbers-end
-part-lay-numbers-end c = simp length-set (omega (arith, c.before.before.before.requires.2))
+part-lay-numbers-end : tie.Need-slice_bounds-lay_numbers-end-2
+part-lay-numbers-end c = simp length-set (omega (arith, c.requires.2))
 
-lay-numbers-requires : tie.Need-lay-numbers-requires
+lay-numbers-requires : tie.Need-lay_numbers-six-requires
 lay-numbers-requires c κs =
-    let t = c.before.before in
-    let s = t.before.before in
-    let g = stands s in
-    ((g.numbers.values, (s.requires.1.next, numbers-stand t g)), simp (length-take, length-drop, length-set) (omega (arith, s.requires.2)), omega arith)
+    let t = c in
+    let s = t in
+    let g = stands (c.before.before.before.before) in
+    ((g.numbers.values, (s.requires.1.next, numbers-stand (c.before.before) g)), simp (length-take, length-drop, length-set) (omega (arith, s.requires.2)), omega arith)
 
 -- its numbers and its marks were laid
-module _ (c : tie.After-lay-numbers) {one : Resource} {next : ℕ} (g : GeneratorStands c.before.before.before.before.before.args.text.now c.before.before.before.before.before.args.kind c.before.before.before.before.before.args.at one next) where
-  abbrev found : tie.After-status-at
+module _ (c : tie.After-lay_numbers-six) {one : Resource} {next : ℕ} (g : GeneratorStands c.args.text.now c.args.kind c.args.at one next) where
+  abbrev found : tie.After-status_at-status
   found = c.before.before.before
 
   abbrev text : List ℕ
-  text = found.before.before.args.text.now
+  text = found.args.text.now
 
-  numbers-laid : (c.lay-numbers.result ≡ record { marks = marks_of g.numbers.values; next = next }) × (c.lay-numbers.new.1.1.1.0 ≡ numbers_of g.numbers.values)
-  numbers-laid = c.lay-numbers.ensures g.numbers.values next (numbers-stand found g)
+  numbers-laid : (c.lay_numbers-six.result ≡ record { marks = marks_of g.numbers.values; next = next }) × (c.lay_numbers-six.new.row ≡ numbers_of g.numbers.values)
+  numbers-laid = c.lay_numbers-six.ensures g.numbers.values next (numbers-stand found g)
 
   six : length (numbers_of g.numbers.values) ≡ 6
-  six = numbers_counted text found.status-at.result.next (4 ∷ 4 ∷ 4 ∷ 5 ∷ 8 ∷ 7 ∷ []) g.numbers.values next (numbers-stand found g)
+  six = numbers_counted text found.status_at-status.result.next (4 ∷ 4 ∷ 4 ∷ 5 ∷ 8 ∷ 7 ∷ []) g.numbers.values next (numbers-stand found g)
 
   marks-small : marks_of g.numbers.values < 256
-  marks-small = marks_fit text found.status-at.result.next (4 ∷ 4 ∷ 4 ∷ 5 ∷ 8 ∷ 7 ∷ []) g.numbers.values next (numbers-stand found g) (omega arith)
+  marks-small = marks_fit text found.status_at-status.result.next (4 ∷ 4 ∷ 4 ∷ 5 ∷ 8 ∷ 7 ∷ []) g.numbers.values next (numbers-stand found g) (omega arith)
 
-cast-row-3 : tie.Need-overflow-cast-row-3
+
+cast-row-3 : tie.Need-overflow_cast-row-3
 cast-row-3 c =
-    let l = c.before.before in
-    let g = stands l.before.before.before.before.before in
-    rw (numbers-laid l g).0 (record { sfits = omega (arith, marks-small l g) })
+    let l = c in
+    let g = stands (c.before.before.before.before.before.before.before) in
+    rw (numbers-laid (c.before.before) g).0 (record { sfits = omega (arith, marks-small (c.before.before) g) })
 
-slice-set-from-row-3 : tie.Need-slice-set-from-row-3
+slice-set-from-row-3 : tie.Need-bounds-row-8
 slice-set-from-row-3 c =
-    let s = c.before.before.before.before.before.before.before in
-    omega (arith, simp length-set at c.before.row.given.1, s.requires.2)
+    let s = c in
+    omega (arith, simp length-set at c.row-1.given.1, s.requires.2)
 
-same_length : tie.Need-same-length
-same_length c = simp length-set (simp length-set at c.before.row.given.1)
+same_length : tie.Need-shape_of-row
+same_length c = simp length-set (simp length-set at c.row-1.given.1)
 
 returns : tie.Need-returns
 returns c =
-    let l = c.before.before in
-    let t = l.before.before.before in
-    let s = t.before.before in
+    let l = c in
+    let t = l in
+    let s = t in
     λ one next e.
     let g = generator_stands s.args.text.now s.args.kind s.args.at s.requires.0 e in
-    let said = numbers-laid l g in (
+    let said = numbers-laid (c.before.before) g in (
       rw said.0,
       rw said.1
-          (generator_laid s.args.row.now (numbers_of g.numbers.values) s.requires.2 (to_z w64 s.args.kind) (to_z w64 t.status-at.result.index) (to_z w64 l.lay-numbers.result.marks) (six l g)
+          (generator_laid s.args.row.now (numbers_of g.numbers.values) s.requires.2 (to_z w64 s.args.kind) (to_z w64 t.status_at-status.result.index) (to_z w64 l.lay_numbers-six.result.marks) (six (c.before.before) g)
           ∙ rw (
             said.0,
             to_z_pos w64 {n = s.args.kind} (omega (arith, s.requires.0)),
-            to_z_pos w64 {n = t.status-at.result.index} (omega (arith, small t)),
-            to_z_pos w64 {n = marks_of g.numbers.values} (omega (arith, marks-small l g)),
-            (same t g).0,
+            to_z_pos w64 {n = t.status_at-status.result.index} (omega (arith, small (c.before.before.before.before.before))),
+            to_z_pos w64 {n = marks_of g.numbers.values} (omega (arith, marks-small (c.before.before) g)),
+            (same (c.before.before.before.before.before) g).0,
           )
           (sym g.numbers.is)),
     )
 
-pub lay-generator-spec : {M : Type 1} → statement M
-lay-generator-spec =
+pub lay_generator_spec : {M : Type 1} → statement M
+lay_generator_spec =
     tie.close
     (tie.spec
     status-at-requires

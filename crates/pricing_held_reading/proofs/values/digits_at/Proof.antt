@@ -11,13 +11,13 @@ use Rattle.pricing_held_reading.proofs.Standing.{first_within, first_is, first_t
 use Rattle.pricing_held_reading.proofs.values.digits_at.Statement.{statement}
 use Rattle.pricing_held_reading.proofs.values.digits_at.Tie as tie
 
-abbrev invariant-loop : tie.invariant-loop
+abbrev invariant-loop : tie.invariant-loop-i
 invariant-loop text at n₀ i₀ n i = (m : ℕ) (suspect : Bool) (next : ℕ) → DigitsStand text at m suspect next → BytesTaken (marked_digits m suspect) i n
 
-abbrev decreases-loop : tie.decreases-loop
+abbrev decreases-loop : tie.decreases-loop-i
 decreases-loop text at n₀ i₀ n i = length text - i
 
-abbrev start : tie.At-loop invariant-loop decreases-loop → tie.Start invariant-loop decreases-loop
+abbrev start : tie.At-loop-i invariant-loop decreases-loop → tie.Start invariant-loop decreases-loop
 start c = c.before.before
 
 -- the number that stands there, and its bytes so far
@@ -25,112 +25,112 @@ abbrev stands : (s : tie.Start invariant-loop decreases-loop) → DigitsStand s.
 stands s = s.requires.1.1.1
 
 abbrev number :
-    (c : tie.At-loop invariant-loop decreases-loop) →
+    (c : tie.At-loop-i invariant-loop decreases-loop) →
     DigitsStand (start c).args.text.now (start c).args.at (start c).requires.0 (start c).requires.1.0 (start c).requires.1.1.0
 number c = stands (start c)
 
-abbrev so_far : (c : tie.At-loop invariant-loop decreases-loop) → BytesTaken (marked_digits (start c).requires.0 (start c).requires.1.0) c.loop.i c.loop.n
-so_far c = c.loop.invariant (start c).requires.0 (start c).requires.1.0 (start c).requires.1.1.0 (number c)
+abbrev so_far : (c : tie.At-loop-i invariant-loop decreases-loop) → BytesTaken (marked_digits (start c).requires.0 (start c).requires.1.0) c.loop-i.i c.loop-i.n
+so_far c = c.loop-i.invariant (start c).requires.0 (start c).requires.1.0 (start c).requires.1.1.0 (number c)
 
-shared-slice-read-n : tie.Need-shared-slice-read-n invariant-loop decreases-loop
-shared-slice-read-n c = first_within (stands c.before)
+shared-slice-read-n : tie.Need-bounds-text-at invariant-loop decreases-loop
+shared-slice-read-n c = first_within (stands (c.before))
 
-cast-n : tie.Need-overflow-cast-n invariant-loop decreases-loop
-cast-n c = omega (arith, first_is (stands c.before))
+cast-n : tie.Need-overflow_cast-n invariant-loop decreases-loop
+cast-n c = omega (arith, first_is (stands (c.before)))
 
-sub-n : tie.Need-overflow-sub-n invariant-loop decreases-loop
-sub-n c = (first_is (stands c.before)).0
+sub-n : tie.Need-overflow_sub-n invariant-loop decreases-loop
+sub-n c = (first_is (stands (c.before))).0
 
-loop-holds : tie.Need-loop-init invariant-loop decreases-loop
+loop-holds : tie.Need-loop-i-init invariant-loop decreases-loop
 loop-holds c = λ m suspect next stand. first_taken stand
 
-add-if1 : tie.Need-overflow-add-if1 invariant-loop decreases-loop
+add-if1 : tie.Need-overflow_add-at invariant-loop decreases-loop
 add-if1 c = omega (arith, digit_within (number c) (so_far c))
 
-shared-slice-read-if1 : tie.Need-shared-slice-read-if1 invariant-loop decreases-loop
-shared-slice-read-if1 c = digit_within (number c.before) (so_far c.before)
+shared-slice-read-if1 : tie.Need-bounds-text-at-in-loop-i invariant-loop decreases-loop
+shared-slice-read-if1 c = digit_within (number (c.before)) (so_far (c.before))
 
-mul-n : tie.Need-overflow-mul-n invariant-loop decreases-loop
-mul-n c = let l = c.before.before in omega (arith, digit_small (number l) (so_far l) c.if1.true)
+mul-n : tie.Need-overflow_mul-n invariant-loop decreases-loop
+mul-n c = let l = c in omega (arith, digit_small (number (c.before.before)) (so_far (c.before.before)) c.loop-i-test.true)
 
-add-n : tie.Need-overflow-add-n invariant-loop decreases-loop
-add-n c = let l = c.before.before in omega (arith, digit_within (number l) (so_far l))
+add-n : tie.Need-overflow_add-n invariant-loop decreases-loop
+add-n c = let l = c in omega (arith, digit_within (number (c.before.before)) (so_far (c.before.before)))
 
-shared-slice-read-n-2 : tie.Need-shared-slice-read-n-2 invariant-loop decreases-loop
-shared-slice-read-n-2 c = let l = c.before.before.before in digit_within (number l) (so_far l)
+shared-slice-read-n-2 : tie.Need-bounds-text-at-in-loop-i-2 invariant-loop decreases-loop
+shared-slice-read-n-2 c = let l = c in digit_within (number (c.before.before.before)) (so_far (c.before.before.before))
 
-cast-n-2 : tie.Need-overflow-cast-n-2 invariant-loop decreases-loop
-cast-n-2 c = let l = c.before.before.before in omega (arith, digit_is (number l) (so_far l) c.before.if1.true)
+cast-n-2 : tie.Need-overflow_cast-n-in-loop-i invariant-loop decreases-loop
+cast-n-2 c = let l = c in omega (arith, digit_is (number (c.before.before.before)) (so_far (c.before.before.before)) c.loop-i-test.true)
 
-sub-n-2 : tie.Need-overflow-sub-n-2 invariant-loop decreases-loop
-sub-n-2 c = let l = c.before.before.before in (digit_is (number l) (so_far l) c.before.if1.true).0
+sub-n-2 : tie.Need-overflow_sub-n-in-loop-i invariant-loop decreases-loop
+sub-n-2 c = let l = c in (digit_is (number (c.before.before.before)) (so_far (c.before.before.before)) c.loop-i-test.true).0
 
-add-n-2 : tie.Need-overflow-add-n-2 invariant-loop decreases-loop
+add-n-2 : tie.Need-overflow_add-n-in-loop-i invariant-loop decreases-loop
 add-n-2 c =
-    let l = c.before.before.before in
-    omega (arith, digit_is (number l) (so_far l) c.before.if1.true, digit_small (number l) (so_far l) c.before.if1.true)
+    let l = c in
+    omega (arith, digit_is (number (c.before.before.before)) (so_far (c.before.before.before)) c.loop-i-test.true, digit_small (number (c.before.before.before)) (so_far (c.before.before.before)) c.loop-i-test.true)
 
-add-i : tie.Need-overflow-add-i invariant-loop decreases-loop
-add-i c = let l = c.before.before.before in omega (arith, digit_within (number l) (so_far l))
+add-i : tie.Need-overflow_add-i invariant-loop decreases-loop
+add-i c = let l = c in omega (arith, digit_within (number (c.before.before.before)) (so_far (c.before.before.before)))
 
-loop-less : tie.Need-loop-smaller invariant-loop decreases-loop
-loop-less c = let l = c.before.before.before in omega (arith, digit_within (number l) (so_far l))
+loop-less : tie.Need-loop-i-smaller invariant-loop decreases-loop
+loop-less c = let l = c in omega (arith, digit_within (number (c.before.before.before)) (so_far (c.before.before.before)))
 
-loop-again : tie.Need-loop-preserved invariant-loop decreases-loop
-loop-again c = let l = c.before.before.before in λ m suspect next stand. digit_taken stand (l.loop.invariant m suspect next stand) c.before.if1.true
+loop-again : tie.Need-loop-i-preserved invariant-loop decreases-loop
+loop-again c = let l = c in λ m suspect next stand. digit_taken stand (l.loop-i.invariant m suspect next stand) c.loop-i-test.true
 
-add-if2 : tie.Need-overflow-add-if2 invariant-loop decreases-loop
-add-if2 c = let l = c.before.before in omega (arith, digit_within (number l) (so_far l))
+add-if2 : tie.Need-overflow_add-at-2 invariant-loop decreases-loop
+add-if2 c = let l = c in omega (arith, digit_within (number (c.before.before)) (so_far (c.before.before)))
 
-sub-if2 : tie.Need-overflow-sub-if2 invariant-loop decreases-loop
-sub-if2 c = let l = c.before.before in omega (arith, digits_some_taken (number l) (so_far l) c.if1.false)
+sub-if2 : tie.Need-overflow_sub-at invariant-loop decreases-loop
+sub-if2 c = let l = c in omega (arith, digits_some_taken (number (c.before.before)) (so_far (c.before.before)) c.loop-i-test.false)
 
-shared-slice-read-if2 : tie.Need-shared-slice-read-if2 invariant-loop decreases-loop
-shared-slice-read-if2 c = let l = c.before.before.before in omega (arith, digit_within (number l) (so_far l))
+shared-slice-read-if2 : tie.Need-bounds-text-at-2 invariant-loop decreases-loop
+shared-slice-read-if2 c = let l = c in omega (arith, digit_within (number (c.before.before.before)) (so_far (c.before.before.before)))
 
-sub-t20 : tie.Need-overflow-sub-t20 invariant-loop decreases-loop
+sub-t20 : tie.Need-overflow_sub-result invariant-loop decreases-loop
 sub-t20 c =
-    let e = c.before.before in
-    let l = e.before.before in
-    omega (arith, (digits_suspect (number l) (so_far l) e.if1.false c.if2.true).1)
+    let e = c in
+    let l = e in
+    omega (arith, (digits_suspect (number (c.before.before.before.before)) (so_far (c.before.before.before.before)) e.loop-i-test.false c.if-text-at-eq63.true).1)
 
-add-t22 : tie.Need-overflow-add-t22 invariant-loop decreases-loop
-add-t22 c = let l = c.before.before.before.before in omega (arith, digit_within (number l) (so_far l))
+add-t22 : tie.Need-overflow_add-result invariant-loop decreases-loop
+add-t22 c = let l = c in omega (arith, digit_within (number (c.before.before.before.before)) (so_far (c.before.before.before.before)))
 
-add-t23 : tie.Need-overflow-add-t23 invariant-loop decreases-loop
-add-t23 c = let l = c.before.before.before.before in omega (arith, digit_within (number l) (so_far l))
+add-t23 : tie.Need-overflow_add-result-then-text-at-eq63 invariant-loop decreases-loop
+add-t23 c = let l = c in omega (arith, digit_within (number (c.before.before.before.before)) (so_far (c.before.before.before.before)))
 
 same :
     {value n : ℕ} {marked suspect : Bool} {after next : ℕ} → value ≡ n → marked ≡ suspect → after ≡ next →
     ◌≡◌ {A = DigitsAt} (record { value = value; suspect = marked; next = after }) (record { value = n; suspect = suspect; next = next })
 same v s n = rw (v, s, n)
 
-returns : tie.Need-returns invariant-loop decreases-loop
+returns : tie.Need-returns-then-text-at-eq63 invariant-loop decreases-loop
 returns c =
-    let e = c.before.before in
-    let l = e.before.before in
+    let e = c in
+    let l = e in
     λ m suspect next stand.
-    let taken = l.loop.invariant m suspect next stand in
-    let told = digits_suspect stand taken e.if1.false c.if2.true in
-    same (omega (arith, told.1)) (sym told.0) (digits_end stand taken e.if1.false)
+    let taken = l.loop-i.invariant m suspect next stand in
+    let told = digits_suspect stand taken e.loop-i-test.false c.if-text-at-eq63.true in
+    same (omega (arith, told.1)) (sym told.0) (digits_end stand taken e.loop-i-test.false)
 
-add-t16 : tie.Need-overflow-add-t16 invariant-loop decreases-loop
-add-t16 c = let l = c.before.before.before.before in omega (arith, digit_within (number l) (so_far l))
+add-t16 : tie.Need-overflow_add-result-2 invariant-loop decreases-loop
+add-t16 c = let l = c in omega (arith, digit_within (number (c.before.before.before.before)) (so_far (c.before.before.before.before)))
 
-add-t17 : tie.Need-overflow-add-t17 invariant-loop decreases-loop
-add-t17 c = let l = c.before.before.before.before in omega (arith, digit_within (number l) (so_far l))
+add-t17 : tie.Need-overflow_add-result-3 invariant-loop decreases-loop
+add-t17 c = let l = c in omega (arith, digit_within (number (c.before.before.before.before)) (so_far (c.before.before.before.before)))
 
-returns-2 : tie.Need-returns-2 invariant-loop decreases-loop
+returns-2 : tie.Need-returns invariant-loop decreases-loop
 returns-2 c =
-    let e = c.before.before in
-    let l = e.before.before in
+    let e = c in
+    let l = e in
     λ m suspect next stand.
-    let taken = l.loop.invariant m suspect next stand in
-    let told = digits_unmarked stand taken e.if1.false c.if2.false in
-    same told.1 (sym told.0) (digits_end stand taken e.if1.false)
+    let taken = l.loop-i.invariant m suspect next stand in
+    let told = digits_unmarked stand taken e.loop-i-test.false c.if-text-at-eq63.false in
+    same told.1 (sym told.0) (digits_end stand taken e.loop-i-test.false)
 
-pub digits-at-spec : {M : Type 1} → statement M
-digits-at-spec =
+pub digits_at_spec : {M : Type 1} → statement M
+digits_at_spec =
     tie.close
     (tie.spec
     invariant-loop

@@ -60,13 +60,13 @@ module _ (c : tie.After-magnitude-marks) where
   status-laid =
       let values = (start c).args.values.now in
       let p = (status c).before in
-      let place : p.place_of.result ≡ place_of (value values 1) = place_is (value values 1) (sfits_of p.place-of-arg.given) p.place_of.ensures in
+      let place : p.place_of.result ≡ place_of (value values 1) = place_is (value values 1) (sfits_of p.place_of-arg-1.given) p.place_of.ensures in
       let same = ap (λ (place : ℕ). bytes "status=" ++ (written_word status_words place ++ (10 ∷ []))) place in
       laid_as same (laid_of (status c).put_status.ensures c.next_of-next.ensures (omega (arith, fits (start c), ap length same)))
 
   -- behind it there is room for the lines of the numbers
   room : c.next_of-next.result + length (numbers (start c)) ≤ length (status c).put_status.new.buffer
-  room = omega (arith, fits (start c), status-laid.ends, (status c).put_status.auto.0)
+  room = omega (arith, fits (start c), status-laid.ends, (status c).put_status.auto.buffer)
 
   both : {after : List ℕ} {next : ℕ} → TextLaid (numbers (start c)) (status c).put_status.new.buffer c.next_of-next.result after next →
       TextLaid (status_text (start c).args.values.now ++ numbers (start c)) (start c).args.buffer.now (start c).args.at after next
@@ -99,7 +99,7 @@ returns : tie.Need-returns-then-marks-eq0
 returns c =
     let lines = c in
     let t = lines in
-    let m = t in
+    let m = c.before.before.before.before.before.before.before.before.before in
     let values = (start (c.before.before.before.before.before.before.before.before.before)).args.values.now in
     let handed = numbers_unmarked (bytes "net=lsl=hsl=base=nonspin=cold30=") 6 values (omega (arith, marks m, t.if-marks-eq0.true)) in
     rw (generator_text 0 values (omega arith)) (both m (laid_as handed (laid_of lines.write_lines-ended.ensures c.next_of.ensures (omega (arith, room m, ap length handed)))))
@@ -130,7 +130,7 @@ same-length-2 c =
 returns-2 : tie.Need-returns
 returns-2 c =
     let lines = c in
-    let m = lines in
+    let m = c.before.before.before.before.before.before.before.before.before in
     let values = (start (c.before.before.before.before.before.before.before.before.before)).args.values.now in
     let handed = numbers_marked (bytes "net=lsl=hsl=base=nonspin=cold30=") 6 values (marks m) in
     rw (generator_text 0 values (omega arith)) (both m (laid_as handed (laid_of lines.write_marked_lines-ended.ensures c.next_of-2.ensures (omega (arith, room m, ap length handed)))))

@@ -88,13 +88,13 @@ place : (c : tie.After-next_of-after) → let s = start (id_next c) in (kind-wri
 place c =
     let s = start (id_next c) in
     let p = (kind-written c).before in
-    place_is (value s.args.numbers.now (9 * s.args.i)) (sfits_of p.place-of-arg.given) p.place_of.ensures
+    place_is (value s.args.numbers.now (9 * s.args.i)) (sfits_of p.place_of-arg-1.given) p.place_of-kind.ensures
 
 kind-laid : (c : tie.After-next_of-after) → TextLaid (kind (start (id_next c))) (id-written (id_next c)).write_text_line.new.buffer (id_next c).next_of-next.result (kind-written c).put_kind.new.buffer c.next_of-after.result
 kind-laid c =
     let n = id_next c in
     let same = ap (λ (place : ℕ). bytes "kind=" ++ (written_word kind_words place ++ (10 ∷ []))) (place c) in
-    laid_as same (laid_of (kind-written c).put_kind.ensures c.next_of-after.ensures (omega (arith, ap length same, fits (start (c.before.before.before.before.before.before.before)), (id-laid (c.before.before.before.before.before.before.before)).ends, (id-written (c.before.before.before.before.before.before.before)).write_text_line.auto.0)))
+    laid_as same (laid_of (kind-written c).put_kind.ensures c.next_of-after.ensures (omega (arith, ap length same, fits (start (c.before.before.before.before.before.before.before)), (id-laid (c.before.before.before.before.before.before.before)).ends, (id-written (c.before.before.before.before.before.before.before)).write_text_line.auto.buffer)))
 
 -- the lines behind it, as they are handed over
 values_same : (c : tie.After-next_of-after) → let s = start (id_next c) in let numbers = s.args.numbers.now in
@@ -125,7 +125,7 @@ put-values-requires c κs =
     let s = start (c.before.before.before.before.before.before.before.before.before) in
     let numbers = s.args.numbers.now in (
       rw (rest_whole numbers (9 * s.args.i)) (omega (arith, s.requires.1, length-drop (9 * s.args.i) numbers)),
-      omega (arith, ap length (values_same (c.before.before)), fits s, (id-laid (c.before.before.before.before.before.before.before.before.before)).ends, (id-written (c.before.before.before.before.before.before.before.before.before)).write_text_line.auto.0, (kind-laid (c.before.before)).ends, (kind-written (c.before.before)).put_kind.auto.0),
+      omega (arith, ap length (values_same (c.before.before)), fits s, (id-laid (c.before.before.before.before.before.before.before.before.before)).ends, (id-written (c.before.before.before.before.before.before.before.before.before)).write_text_line.auto.buffer, (kind-laid (c.before.before)).ends, (kind-written (c.before.before)).put_kind.auto.buffer),
     )
 
 same_length : tie.Need-shape_of-buffer
@@ -142,7 +142,7 @@ returns c =
     let s = start (c.before.before.before.before.before.before.before.before.before.before.before.before) in
     rw (row_text_lem s.args.ids.now s.args.numbers.now s.args.i)
     (laid_both (id-laid (c.before.before.before.before.before.before.before.before.before.before.before.before))
-    (laid_both (kind-laid (c.before.before.before.before.before)) (laid_as (values_same (c.before.before.before.before.before)) v.put_values.ensures) (omega (arith, fits s, (id-laid (c.before.before.before.before.before.before.before.before.before.before.before.before)).ends, (id-written (c.before.before.before.before.before.before.before.before.before.before.before.before)).write_text_line.auto.0)))
+    (laid_both (kind-laid (c.before.before.before.before.before)) (laid_as (values_same (c.before.before.before.before.before)) v.put_values.ensures) (omega (arith, fits s, (id-laid (c.before.before.before.before.before.before.before.before.before.before.before.before)).ends, (id-written (c.before.before.before.before.before.before.before.before.before.before.before.before)).write_text_line.auto.buffer)))
     (omega (arith, fits s)))
 
 pub put_row_spec : {M : Type 1} → statement M

@@ -1,4 +1,5 @@
 -- A way through the `match` knows the place of the word, or that it is past the last.
+use native.Mathlib.Omega.{arith}
 use Rattle.text_word.proofs.Words.{written_listed, word_past}
 use Rattle.pricing_resource_text.specs.Resource.{kind_words}
 use Rattle.pricing_held_text.proofs.Listed.{none_below}
@@ -24,7 +25,7 @@ returns-6 : tie.Need-returns-in-5
 returns-6 c = rw (written_listed kind_words c.args.kind, c.in-5.is)
 
 returns-7 : tie.Need-returns-in_default
-returns-7 c = rw (word_past kind_words c.args.kind (none_below 6 _ c.in_default.rest))
+returns-7 c = rw (word_past kind_words c.args.kind (omega arith))
 
 pub kind_length_spec : {M : Type 1} → statement M
 kind_length_spec =

@@ -1,4 +1,5 @@
 -- A way through the `match` knows the place of the word, or that it is past the last.
+use native.Mathlib.Omega.{arith}
 use borrow.Author.Rules.{rules}
 use Rattle.text_word.proofs.Words.{written_listed, word_past}
 use Rattle.pricing_resource_text.specs.Resource.{kind_words}
@@ -88,7 +89,7 @@ returns-7 : tie.Need-returns-in_default
 returns-7 c =
     let line = c in
     let way = line in
-    rw (word_past kind_words way.args.kind (none_below 6 _ way.in_default.rest)) line.write_text_line-in_default.ensures
+    rw (word_past kind_words way.args.kind (omega arith)) line.write_text_line-in_default.ensures
 
 pub put_kind_spec : {M : Type 1} → statement M
 put_kind_spec =

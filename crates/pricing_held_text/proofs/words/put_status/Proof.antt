@@ -1,4 +1,5 @@
 -- A way through the `match` knows the place of the word, or that it is past the last.
+use native.Mathlib.Omega.{arith}
 use borrow.Author.Rules.{rules}
 use Rattle.text_word.proofs.Words.{written_listed, word_past}
 use Rattle.pricing_resource_text.specs.Resource.{status_words}
@@ -100,7 +101,7 @@ returns-8 : tie.Need-returns-in_default
 returns-8 c =
     let line = c in
     let way = line in
-    rw (word_past status_words way.args.status (none_below 7 _ way.in_default.rest)) line.write_text_line-in_default.ensures
+    rw (word_past status_words way.args.status (omega arith)) line.write_text_line-in_default.ensures
 
 pub put_status_spec : {M : Type 1} → statement M
 put_status_spec =

@@ -1,4 +1,5 @@
 -- A way through the `match` knows the place of the word, or that it is past the last.
+use native.Mathlib.Omega.{arith}
 use Rattle.text_word.proofs.Words.{written_listed, word_past}
 use Rattle.pricing_resource_text.specs.Resource.{status_words}
 use Rattle.pricing_held_text.proofs.Listed.{none_below}
@@ -27,7 +28,7 @@ returns-7 : tie.Need-returns-in-6
 returns-7 c = rw (written_listed status_words c.args.status, c.in-6.is)
 
 returns-8 : tie.Need-returns-in_default
-returns-8 c = rw (word_past status_words c.args.status (none_below 7 _ c.in_default.rest))
+returns-8 c = rw (word_past status_words c.args.status (omega arith))
 
 pub status_length_spec : {M : Type 1} → statement M
 status_length_spec =
