@@ -27,15 +27,15 @@ units_that_add_are_among_them one other same adds = sym (verdicts_rest_on_no_mar
 
 -- no unit on which a mark turns the snapshot back is marked
 each_unmarked :
-    (entries : List Entry) (before : ℕ) → suspect_from before (resources_of entries) ≡ 0 → (entry : Entry) → Among entry entries → marks_turn_back entry.resource ≡ true →
+    (entry : Entry) (entries : List Entry) (before : ℕ) → suspect_from before (resources_of entries) ≡ 0 → Among entry entries → marks_turn_back entry.resource ≡ true →
     marks entry.resource ≡ 0
-each_unmarked entries before fine entry (first_of_them {others}) turns =
+each_unmarked entry entries before fine (first_of_them {others}) turns =
     place_none entry.resource turns (suspect_apart before entry.resource (resources_of others) fine).0
-each_unmarked entries before fine entry (later_of_them {other} {others} there) turns =
-    each_unmarked others (before + resource_line_count other.resource) (suspect_apart before other.resource (resources_of others) fine).1 entry there turns
+each_unmarked entry entries before fine (later_of_them {other} {others} there) turns =
+    each_unmarked entry others (before + resource_line_count other.resource) (suspect_apart before other.resource (resources_of others) fine).1 there turns
 
 pub no_marked_number_enters_a_sum : NoMarkedNumberEntersASum
-no_marked_number_enters_a_sum text h entries e entry there turns = each_unmarked entries 8 (snapshot_unmarked text e) entry there turns
+no_marked_number_enters_a_sum text h entries e entry there turns = each_unmarked entry entries 8 (snapshot_unmarked text e) there turns
 
 -- resources that are the same but for marks add up to the same
 same_sums : {entries entries' : List Entry} → EntriesSameButMarks entries entries' → sums_of (resources_of entries) ≡ sums_of (resources_of entries')
