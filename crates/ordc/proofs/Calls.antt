@@ -96,6 +96,8 @@ pub lists_lowered :
     (d : ℕ) {before before' after after' : List ℤ} {texts texts' : List (List ℕ)} {replies replies' : List Reply} → BookCalls before texts replies after → BookCalls before' texts' replies' after' →
     BookCallsLowered d texts texts' replies replies' → ListsLowered d (record_of before) (record_of before') texts texts'
 lists_lowered d no_call no_call none_lowered = tt
+lists_lowered d no_call (one_call called' others') lowered = elim lowered [ ]
+lists_lowered d (one_call called others) no_call lowered = elim lowered [ ]
 lists_lowered d {before} {before'} (one_call {between = between} {text = text} called others) (one_call {between = between'} {text = text'} called' others') (one_lowered lowered all) =
     (place_lowered d before before' between between' text text' called called' lowered, rw (← book_call before between text called, ← book_call before' between' text' called') (lists_lowered d others others' all))
 

@@ -13,52 +13,52 @@ use Rattle.ordc.proofs.Numbered.{refusals_are_numbered}
 use Rattle.ordc.proofs.book.ordc_book.Statement.{statement}
 use Rattle.ordc.proofs.book.ordc_book.Tie as tie
 
-record-of-requires : tie.Need-record-of-requires
+record-of-requires : tie.Need-record_of-requires
 record-of-requires c κs = tt
 
-book-requires : tie.Need-book-requires
+book-requires : tie.Need-book-booking-requires
 book-requires c κs = tt
 
-enum-known-answer : tie.Need-enum-known-answer
-enum-known-answer c = c.match.keys1
+enum-known-answer : tie.Need-enum_known-answer
+enum-known-answer c = c.in-Refused-1.keys1
 
 refused-requires : tie.Need-refused-requires
 refused-requires c κs = tt
 
-enum_told : tie.Need-enum-told
-enum_told c = c.match.keys2
+enum_told : tie.Need-enum_told-1
+enum_told c = c.in-Accepted-1.keys2
 
-abbrev text-of : tie.After-book → List ℕ
-text-of c = c.before.before.before.before.args.text.now
+abbrev text-of : tie.After-book-booking → List ℕ
+text-of c = c.args.text.now
 
-abbrev history-of : tie.After-book → Record
-history-of c = record_of c.before.before.before.before.args.history.now
+abbrev history-of : tie.After-book-booking → Record
+history-of c = record_of c.args.history.now
 
-booking : (c : tie.After-book) → c.book.result ≡ booked (history-of c) (text-of c)
-booking c = c.book.ensures ∙ ap (λ (history : Record). booked history (text-of c)) c.before.record_of.ensures
+booking : (c : tie.After-book-booking) → c.book-booking.result ≡ booked (history-of c) (text-of c)
+booking c = c.book-booking.ensures ∙ ap (λ (history : Record). booked history (text-of c)) c.record_of.ensures
 
-answered : (c : tie.After-book) {a : Answer} → c.book.result.answer ≡ a → (booked (history-of c) (text-of c)).answer ≡ a
+answered : (c : tie.After-book-booking) {a : Answer} → c.book-booking.result.answer ≡ a → (booked (history-of c) (text-of c)).answer ≡ a
 answered c e = sym (ap (λ (b : Booking). b.answer) (booking c)) ∙ e
 
-record-values-requires : tie.Need-record-values-requires
+record-values-requires : tie.Need-record_values-requires
 record-values-requires c κs =
-    let called = c.before.before in
-    rw (booking called) (accepted_possible (history-of called) (text-of called) (answered called c.enum_told.given.1))
+    let called = c in
+    rw (booking (c.before.before)) (accepted_possible (history-of (c.before.before)) (text-of (c.before.before)) (answered (c.before.before) c.in-Accepted.is))
 
-returns : tie.Need-returns
+returns : tie.Need-returns-in-Refused
 returns c =
-    let told = c.before.before in
-    let called = told.before.before in
-    lent_left (answered called told.answer.given.1) (refusals_are_numbered.booking (history-of called) (text-of called)) c.refused.ensures
+    let told = c in
+    let called = told in
+    lent_left (answered (c.before.before) told.in-Refused.is) (refusals_are_numbered.booking (history-of (c.before.before)) (text-of (c.before.before))) c.refused.ensures
 
-returns-2 : tie.Need-returns-2
+returns-2 : tie.Need-returns-in-Accepted
 returns-2 c =
-    let told = c.before in
-    let called = told.before.before in
-    lent_laid (answered called told.enum_told.given.1) (c.record-values.ensures ∙ ap (λ (b : Booking). record_values b.history) (booking called))
+    let told = c in
+    let called = told in
+    lent_laid (answered (c.before.before.before) told.in-Accepted.is) (c.record_values.ensures ∙ ap (λ (b : Booking). record_values b.history) (booking (c.before.before.before)))
 
-pub ordc-book-spec : {M : Type 1} → statement M
-ordc-book-spec =
+pub ordc_book_spec : {M : Type 1} → statement M
+ordc_book_spec =
     tie.close
     (tie.spec
     record-of-requires

@@ -10,43 +10,43 @@ use Rattle.ordc.proofs.Numbered.{refusals_are_numbered}
 use Rattle.ordc.proofs.curves_length.ordc_curves_length.Statement.{statement}
 use Rattle.ordc.proofs.curves_length.ordc_curves_length.Tie as tie
 
-curves-of-requires : tie.Need-curves-of-requires
+curves-of-requires : tie.Need-curves_of-requires
 curves-of-requires c κs = tt
 
-curves-length-requires : tie.Need-curves-length-requires
+curves-length-requires : tie.Need-curves_length-ended-requires
 curves-length-requires c κs = tt
 
-enum-known-ended : tie.Need-enum-known-ended
-enum-known-ended c = c.match.keys1
+enum-known-ended : tie.Need-enum_known-ended
+enum-known-ended c = c.in-Refused-1.keys1
 
 refused-requires : tie.Need-refused-requires
 refused-requires c κs = tt
 
-enum-known-ended-2 : tie.Need-enum-known-ended-2
-enum-known-ended-2 c = c.match.keys2
+enum-known-ended-2 : tie.Need-enum_known-ended-in-Length-1
+enum-known-ended-2 c = c.in-Length-1.keys2
 
 -- the lent set
-abbrev set : tie.After-curves-length → CurveSet
-set c = curves_of c.before.before.before.args.curves.now
+abbrev set : tie.After-curves_length-ended → CurveSet
+set c = curves_of c.args.curves.now
 
-ends : (c : tie.After-curves-length) {ended : WrittenCurves} → c.curves-length.result ≡ ended → curves_length (set c) ≡ ended
-ends c e = ap curves_length (sym c.before.curves-of.ensures) ∙ sym c.curves-length.ensures ∙ e
+ends : (c : tie.After-curves_length-ended) {ended : WrittenCurves} → c.curves_length-ended.result ≡ ended → curves_length (set c) ≡ ended
+ends c e = ap curves_length (sym c.curves_of.ensures) ∙ sym c.curves_length-ended.ensures ∙ e
 
-returns : tie.Need-returns
+returns : tie.Need-returns-in-Refused
 returns c =
-    let told = c.before.before in
-    let called = told.before.before in
-    lent_left (ap writing_answer (ends called told.ended.given.1)) (refusals_are_numbered.measuring_curves (set called)) c.refused.ensures
+    let told = c in
+    let called = told in
+    lent_left (ap writing_answer (ends (c.before.before) told.in-Refused.is)) (refusals_are_numbered.measuring_curves (set (c.before.before))) c.refused.ensures
 
-returns-2 : tie.Need-returns-2
+returns-2 : tie.Need-returns-in-Length
 returns-2 c =
-    let told = c.before in
-    let called = told.before.before in
-    let e = ends called told.ended2.given.1 in
+    let told = c in
+    let called = told in
+    let e = ends (c.before) told.in-Length.is in
     lent_laid (ap writing_answer e) (sym (ap written_length e))
 
-pub ordc-curves-length-spec : {M : Type 1} → statement M
-ordc-curves-length-spec =
+pub ordc_curves_length_spec : {M : Type 1} → statement M
+ordc_curves_length_spec =
     tie.close
     (tie.spec
     curves-of-requires

@@ -5,45 +5,45 @@ use mir.Facts.{to_z-of_z}
 use Rattle.ordc.proofs.layout.group_at.Statement.{statement}
 use Rattle.ordc.proofs.layout.group_at.Tie as tie
 
-mul-count-of : tie.Need-overflow-mul-count-of
+mul-count-of : tie.Need-offset_bounds-values-place
 mul-count-of c = omega arith
 
-element-copy-out-count-of : tie.Need-element-copy-out-count-of
+element-copy-out-count-of : tie.Need-bounds-values-place
 element-copy-out-count-of c = omega arith
 
-count-of-requires : tie.Need-count-of-requires
+count-of-requires : tie.Need-count_of-count-requires
 count-of-requires c κs = tt
 
-add-sum : tie.Need-overflow-add-sum
+add-sum : tie.Need-overflow_add-sum
 add-sum c = omega arith
 
-mul-sum : tie.Need-overflow-mul-sum
+mul-sum : tie.Need-offset_bounds-values-place-2
 mul-sum c = omega arith
 
-element-copy-out-sum : tie.Need-element-copy-out-sum
+element-copy-out-sum : tie.Need-bounds-values-place-2
 element-copy-out-sum c = omega arith
 
-add-squares : tie.Need-overflow-add-squares
+add-squares : tie.Need-overflow_add-squares
 add-squares c = omega arith
 
-mul-squares : tie.Need-overflow-mul-squares
+mul-squares : tie.Need-offset_bounds-values-place-3
 mul-squares c = omega arith
 
-element-copy-out-squares : tie.Need-element-copy-out-squares
+element-copy-out-squares : tie.Need-bounds-values-place-3
 element-copy-out-squares c = omega arith
 
 returns : tie.Need-returns
 returns c =
-    let counted = c.before.before in
+    let counted = c in
     rw (
-      counted.count_of.ensures,
-      to_z-of_z (sfits_of counted.before.count-of-arg.given),
-      to_z-of_z (sfits_of c.before.sum.given),
-      to_z-of_z (sfits_of c.squares.given),
+      counted.count_of-count.ensures,
+      to_z-of_z (sfits_of counted.count_of-arg-1.given),
+      to_z-of_z (sfits_of c.sum-1.given),
+      to_z-of_z (sfits_of c.squares-1.given),
     )
 
-pub group-at-spec : {M : Type 1} → statement M
-group-at-spec =
+pub group_at_spec : {M : Type 1} → statement M
+group_at_spec =
     tie.close
     (tie.spec
     mul-count-of

@@ -15,69 +15,69 @@ use Rattle.ordc.proofs.Groups.{values_more}
 use Rattle.ordc.proofs.layout.record_values.Statement.{statement}
 use Rattle.ordc.proofs.layout.record_values.Tie as tie
 
-abbrev invariant-loop : tie.invariant-loop
+abbrev invariant-loop : tie.invariant-loop-i
 invariant-loop history values₀ i₀ values i =
     (i ≤ 24) × (length values ≡ 72) × (group_values history.groups ≡ take (3 * i) values ++ group_values (drop i history.groups))
 
-abbrev decreases-loop : tie.decreases-loop
+abbrev decreases-loop : tie.decreases-loop-i
 decreases-loop history values₀ i₀ values i = 24 - i
 
-long : (c : tie.Start invariant-loop decreases-loop) → length c.args.t1.groups ≡ 24
+long : (c : tie.Start invariant-loop decreases-loop) → length c.args.history.groups ≡ 24
 long c = search rules
 
-abbrev at-hand : tie.In-loop invariant-loop decreases-loop → Group
-at-hand c = get_or c.before.before.args.t1.groups c.before.loop.i no_hours
+abbrev at-hand : tie.In-loop-i invariant-loop decreases-loop → Group
+at-hand c = get_or c.args.history.groups c.loop-i.i no_hours
 
-small : (c : tie.In-loop invariant-loop decreases-loop) → (at-hand c).count ≤ 1000
+small : (c : tie.In-loop-i invariant-loop decreases-loop) → (at-hand c).count ≤ 1000
 small c =
-    let s = c.before.before in
-    let i = c.before.loop.i in
-    (possible_is (at-hand c) (rw (group_held s.args.t1 i) at (possible_at s.args.t1 s.requires i c.loop-test.true))).small.count
+    let s = c in
+    let i = c.loop-i.i in
+    (possible_is (at-hand c) (rw (group_held s.args.history i) at (possible_at s.args.history s.requires i c.loop-i-test.true))).small.count
 
-loop-holds : tie.Need-loop-init invariant-loop decreases-loop
+loop-holds : tie.Need-loop-i-init invariant-loop decreases-loop
 loop-holds c = (omega arith, refl, refl)
 
-mul-lay-group : tie.Need-overflow-mul-lay-group invariant-loop decreases-loop
+mul-lay-group : tie.Need-overflow_mul-i invariant-loop decreases-loop
 mul-lay-group c = omega arith
 
-mul-lay-group-2 : tie.Need-overflow-mul-lay-group-2 invariant-loop decreases-loop
+mul-lay-group-2 : tie.Need-offset_bounds-history-i invariant-loop decreases-loop
 mul-lay-group-2 c = omega arith
 
-element-copy-out-lay-group : tie.Need-element-copy-out-lay-group invariant-loop decreases-loop
+element-copy-out-lay-group : tie.Need-bounds-history-i invariant-loop decreases-loop
 element-copy-out-lay-group c = omega arith
 
-lay-group-requires : tie.Need-lay-group-requires invariant-loop decreases-loop
-lay-group-requires c κs = (omega arith, small c.before.before)
+lay-group-requires : tie.Need-lay_group-requires invariant-loop decreases-loop
+lay-group-requires c κs = (omega arith, small (c.before.before))
 
-add-i : tie.Need-overflow-add-i invariant-loop decreases-loop
+add-i : tie.Need-overflow_add-i invariant-loop decreases-loop
 add-i c = omega arith
 
-loop-less : tie.Need-loop-smaller invariant-loop decreases-loop
+loop-less : tie.Need-loop-i-smaller invariant-loop decreases-loop
 loop-less c = omega arith
 
-loop-again : tie.Need-loop-preserved invariant-loop decreases-loop
+loop-again : tie.Need-loop-i-preserved invariant-loop decreases-loop
 loop-again c =
-    let turn = c.before.before.before in
-    let loop = turn.before.loop in
-    let s = turn.before.before in
-    let inside : loop.i < length s.args.t1.groups = omega (arith, long s, turn.loop-test.true) in
-    let room : 3 * loop.i + 2 < length loop.values = omega (arith, loop.invariant.1, turn.loop-test.true) in (
-      omega (arith, turn.loop-test.true),
-      rw c.lay-group.ensures (simp length-set loop.invariant.1),
-      rw c.lay-group.ensures (loop.invariant.2 ∙ values_more s.args.t1.groups loop.values loop.i inside room),
+    let turn = c in
+    let loop = turn.loop-i in
+    let s = turn in
+    let inside : loop.i < length s.args.history.groups = omega (arith, long (c.before.before.before.before.before), turn.loop-i-test.true) in
+    let room : 3 * loop.i + 2 < length loop.values = omega (arith, loop.invariant.1, turn.loop-i-test.true) in (
+      omega (arith, turn.loop-i-test.true),
+      rw c.lay_group.ensures (simp length-set loop.invariant.1),
+      rw c.lay_group.ensures (loop.invariant.2 ∙ values_more s.args.history.groups loop.values loop.i inside room),
     )
 
 returns : tie.Need-returns invariant-loop decreases-loop
 unfolding group_values
 returns c =
-    let loop = c.before.loop in
-    let groups = c.before.before.args.t1.groups in
-    let over : length groups ≤ loop.i = omega (arith, long c.before.before, c.loop-test.false) in
-    let full : length loop.values ≤ 3 * loop.i = omega (arith, loop.invariant.1, c.loop-test.false) in
+    let loop = c.loop-i in
+    let groups = c.args.history.groups in
+    let over : length groups ≤ loop.i = omega (arith, long (c.before.before), c.loop-i-test.false) in
+    let full : length loop.values ≤ 3 * loop.i = omega (arith, loop.invariant.1, c.loop-i-test.false) in
     sym (loop.invariant.2 ∙ rw (drop_of_length-le groups over, append-nil, take_all (3 * loop.i) loop.values full))
 
-pub record-values-spec : {M : Type 1} → statement M
-record-values-spec =
+pub record_values_spec : {M : Type 1} → statement M
+record_values_spec =
     tie.close
     (tie.spec
     invariant-loop

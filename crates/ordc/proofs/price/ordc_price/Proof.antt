@@ -12,47 +12,47 @@ use Rattle.ordc.proofs.Numbered.{refusals_are_numbered}
 use Rattle.ordc.proofs.price.ordc_price.Statement.{statement}
 use Rattle.ordc.proofs.price.ordc_price.Tie as tie
 
-curves-of-requires : tie.Need-curves-of-requires
+curves-of-requires : tie.Need-curves_of-requires
 curves-of-requires c κs = tt
 
-price-requires : tie.Need-price-requires
+price-requires : tie.Need-price-pricing-requires
 price-requires c κs = tt
 
-enum-known-pricing : tie.Need-enum-known-pricing
-enum-known-pricing c = c.match.keys1
+enum-known-pricing : tie.Need-enum_known-pricing
+enum-known-pricing c = c.in-Refused-1.keys1
 
 refused-requires : tie.Need-refused-requires
 refused-requires c κs = tt
 
-enum-known-pricing-2 : tie.Need-enum-known-pricing-2
-enum-known-pricing-2 c = c.match.keys2
+enum-known-pricing-2 : tie.Need-enum_known-pricing-in-Priced-1
+enum-known-pricing-2 c = c.in-Priced-1.keys2
 
-abbrev set : tie.After-price → CurveSet
-set c = curves_of c.before.before.before.before.args.curves.now
+abbrev set : tie.After-price-pricing → CurveSet
+set c = curves_of c.args.curves.now
 
-abbrev text-of : tie.After-price → List ℕ
-text-of c = c.before.before.before.before.args.text.now
+abbrev text-of : tie.After-price-pricing → List ℕ
+text-of c = c.args.text.now
 
-pricing : (c : tie.After-price) {found : Pricing} → c.price.result ≡ found → priced (set c) (text-of c) ≡ found
-pricing c e = sym (c.price.ensures ∙ ap (λ (curves : CurveSet). priced curves (text-of c)) c.before.curves-of.ensures) ∙ e
+pricing : (c : tie.After-price-pricing) {found : Pricing} → c.price-pricing.result ≡ found → priced (set c) (text-of c) ≡ found
+pricing c e = sym (c.price-pricing.ensures ∙ ap (λ (curves : CurveSet). priced curves (text-of c)) c.curves_of.ensures) ∙ e
 
-price-values-requires : tie.Need-price-values-requires
+price-values-requires : tie.Need-price_values-requires
 price-values-requires c κs = tt
 
-returns : tie.Need-returns
+returns : tie.Need-returns-in-Refused
 returns c =
-    let told = c.before.before in
-    let called = told.before.before in
-    lent_left (ap pricing_answer (pricing called told.pricing.given.1)) (refusals_are_numbered.pricing (set called) (text-of called)) c.refused.ensures
+    let told = c in
+    let called = told in
+    lent_left (ap pricing_answer (pricing (c.before.before) told.in-Refused.is)) (refusals_are_numbered.pricing (set (c.before.before)) (text-of (c.before.before))) c.refused.ensures
 
-returns-2 : tie.Need-returns-2
+returns-2 : tie.Need-returns-in-Priced
 returns-2 c =
-    let accepted = c.before.before in
-    let e = pricing accepted.before.before accepted.pricing2.given.1 in
-    lent_laid (ap pricing_answer e) (c.price-values.ensures ∙ rw e)
+    let accepted = c in
+    let e = pricing (c.before.before) accepted.in-Priced.is in
+    lent_laid (ap pricing_answer e) (c.price_values.ensures ∙ rw e)
 
-pub ordc-price-spec : {M : Type 1} → statement M
-ordc-price-spec =
+pub ordc_price_spec : {M : Type 1} → statement M
+ordc_price_spec =
     tie.close
     (tie.spec
     curves-of-requires

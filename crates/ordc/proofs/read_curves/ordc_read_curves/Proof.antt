@@ -9,38 +9,38 @@ use Rattle.ordc.proofs.Numbered.{refusals_are_numbered}
 use Rattle.ordc.proofs.read_curves.ordc_read_curves.Statement.{statement}
 use Rattle.ordc.proofs.read_curves.ordc_read_curves.Tie as tie
 
-read-curves-requires : tie.Need-read-curves-requires
+read-curves-requires : tie.Need-read_curves-read-requires
 read-curves-requires c κs = tt
 
-enum-known-answer : tie.Need-enum-known-answer
-enum-known-answer c = c.match.keys1
+enum-known-answer : tie.Need-enum_known-answer
+enum-known-answer c = c.in-Refused-1.keys1
 
 refused-requires : tie.Need-refused-requires
 refused-requires c κs = tt
 
-enum_told : tie.Need-enum-told
-enum_told c = c.match.keys2
+enum_told : tie.Need-enum_told-1
+enum_told c = c.in-Accepted-1.keys2
 
-values-of-requires : tie.Need-values-of-requires
+values-of-requires : tie.Need-values_of-requires
 values-of-requires c κs = tt
 
-answered : (c : tie.After-read-curves) {a : Answer} → c.read-curves.result.answer ≡ a → (read_curves c.before.before.args.text.now).answer ≡ a
-answered c e = sym (ap (λ (curves : Curves). curves.answer) c.read-curves.ensures) ∙ e
+answered : (c : tie.After-read_curves-read) {a : Answer} → c.read_curves-read.result.answer ≡ a → (read_curves c.args.text.now).answer ≡ a
+answered c e = sym (ap (λ (curves : Curves). curves.answer) c.read_curves-read.ensures) ∙ e
 
-returns : tie.Need-returns
+returns : tie.Need-returns-in-Refused
 returns c =
-    let told = c.before.before in
-    let read = told.before.before in
-    lent_left (answered read told.answer.given.1) (refusals_are_numbered.reading read.before.before.args.text.now) c.refused.ensures
+    let told = c in
+    let read = told in
+    lent_left (answered (c.before.before) told.in-Refused.is) (refusals_are_numbered.reading read.args.text.now) c.refused.ensures
 
-returns-2 : tie.Need-returns-2
+returns-2 : tie.Need-returns-in-Accepted
 returns-2 c =
-    let told = c.before in
-    let read = told.before.before in
-    lent_laid (answered read told.enum_told.given.1) (c.values_of.ensures ∙ ap (λ (curves : Curves). curve_values curves.set) read.read-curves.ensures)
+    let told = c in
+    let read = told in
+    lent_laid (answered (c.before.before.before) told.in-Accepted.is) (c.values_of.ensures ∙ ap (λ (curves : Curves). curve_values curves.set) read.read_curves-read.ensures)
 
-pub ordc-read-curves-spec : {M : Type 1} → statement M
-ordc-read-curves-spec =
+pub ordc_read_curves_spec : {M : Type 1} → statement M
+ordc_read_curves_spec =
     tie.close
     (tie.spec
     read-curves-requires

@@ -14,17 +14,17 @@ use Rattle.ordc.proofs.Numbered.{refusals_are_numbered}
 use Rattle.ordc.proofs.read_snapshot.ordc_read_snapshot.Statement.{statement}
 use Rattle.ordc.proofs.read_snapshot.ordc_read_snapshot.Tie as tie
 
-read-held-requires : tie.Need-read-held-requires
+read-held-requires : tie.Need-read_held-answer-requires
 read-held-requires c κs = tt
 
-enum-known-answer : tie.Need-enum-known-answer
-enum-known-answer c = c.match.keys1
+enum-known-answer : tie.Need-enum_known-answer
+enum-known-answer c = c.in-Refused-1.keys1
 
 refused-requires : tie.Need-refused-requires
 refused-requires c κs = tt
 
-enum_told : tie.Need-enum-told
-enum_told c = c.match.keys2
+enum_told : tie.Need-enum_told-1
+enum_told c = c.in-Accepted-1.keys2
 
 -- a reply to the answer of the reading says what the call did
 called :
@@ -39,36 +39,36 @@ called text ids numbers read e is =
       numbers_are = answered_by (reading_held text ids numbers) n says read.numbers_are;
     }
 
-abbrev start : tie.After-read-held → tie.Start
+abbrev start : tie.After-read_held-answer → tie.Start
 start c = c.before.before.before.before.before.before
 
-same_length : tie.Need-same-length
+same_length : tie.Need-shape_of-ids-in-Refused
 same_length c = search rules
 
-same-length-2 : tie.Need-same-length-2
+same-length-2 : tie.Need-shape_of-numbers-in-Refused
 same-length-2 c = search rules
 
-returns : tie.Need-returns
+returns : tie.Need-returns-in-Refused
 returns c =
-    let told = c.before.before in
-    let held = told.before.before.before.before.before in
-    let a = (start held).args in
-    called a.text.now a.ids.now a.numbers.now held.read_held.ensures told.answer.given.1 c.refused.ensures
+    let told = c in
+    let held = told in
+    let a = (start (c.before.before.before.before.before)).args in
+    called a.text.now a.ids.now a.numbers.now held.read_held-answer.ensures told.in-Refused.is c.refused.ensures
 
-same-length-3 : tie.Need-same-length-3
+same-length-3 : tie.Need-shape_of-ids-in-Accepted
 same-length-3 c = search rules
 
-same-length-4 : tie.Need-same-length-4
+same-length-4 : tie.Need-shape_of-numbers-in-Accepted
 same-length-4 c = search rules
 
-returns-2 : tie.Need-returns-2
+returns-2 : tie.Need-returns-in-Accepted
 returns-2 c =
-    let held = c.before.before.before.before.before in
-    let a = (start held).args in
-    called a.text.now a.ids.now a.numbers.now held.read_held.ensures c.enum_told.given.1 refl
+    let held = c in
+    let a = (start (c.before.before.before.before)).args in
+    called a.text.now a.ids.now a.numbers.now held.read_held-answer.ensures c.in-Accepted.is refl
 
-pub ordc-read-snapshot-spec : {M : Type 1} → statement M
-ordc-read-snapshot-spec =
+pub ordc_read_snapshot_spec : {M : Type 1} → statement M
+ordc_read_snapshot_spec =
     tie.close
     (tie.spec
     read-held-requires

@@ -11,49 +11,49 @@ use Rattle.ordc.proofs.Numbered.{refusals_are_numbered}
 use Rattle.ordc.proofs.settle.ordc_settle.Statement.{statement}
 use Rattle.ordc.proofs.settle.ordc_settle.Tie as tie
 
-record-of-requires : tie.Need-record-of-requires
+record-of-requires : tie.Need-record_of-requires
 record-of-requires c κs = tt
 
-settle-requires : tie.Need-settle-requires
+settle-requires : tie.Need-settle-settled-requires
 settle-requires c κs = tt
 
-enum-known-answer : tie.Need-enum-known-answer
-enum-known-answer c = c.match.keys1
+enum-known-answer : tie.Need-enum_known-answer
+enum-known-answer c = c.in-Refused-1.keys1
 
 refused-requires : tie.Need-refused-requires
 refused-requires c κs = tt
 
-enum_told : tie.Need-enum-told
-enum_told c = c.match.keys2
+enum_told : tie.Need-enum_told-1
+enum_told c = c.in-Accepted-1.keys2
 
-values-of-requires : tie.Need-values-of-requires
+values-of-requires : tie.Need-values_of-requires
 values-of-requires c κs = tt
 
-abbrev given : tie.After-settle → Curves
-given c = let s = c.before.before in settled (record_of s.args.history.now) s.args.voll s.args.floor
+abbrev given : tie.After-settle-settled → Curves
+given c = let s = c in settled (record_of s.args.history.now) s.args.voll s.args.floor
 
-settling : (c : tie.After-settle) → c.settle.result ≡ given c
+settling : (c : tie.After-settle-settled) → c.settle-settled.result ≡ given c
 settling c =
-    let s = c.before.before in
-    rw (← c.before.record_of.ensures, ← to_z-of_z s.ranges.voll, ← to_z-of_z s.ranges.floor) c.settle.ensures
+    let s = c in
+    rw (← c.record_of.ensures, ← to_z-of_z s.ranges.voll, ← to_z-of_z s.ranges.floor) c.settle-settled.ensures
 
-answered : (c : tie.After-settle) {a : Answer} → c.settle.result.answer ≡ a → (given c).answer ≡ a
+answered : (c : tie.After-settle-settled) {a : Answer} → c.settle-settled.result.answer ≡ a → (given c).answer ≡ a
 answered c e = sym (ap (λ (curves : Curves). curves.answer) (settling c)) ∙ e
 
-returns : tie.Need-returns
+returns : tie.Need-returns-in-Refused
 returns c =
-    let told = c.before.before in
-    let s = told.before.before.before.before in
-    lent_left (answered told.before.before told.answer.given.1) (refusals_are_numbered.settling (record_of s.args.history.now) s.args.voll s.args.floor) c.refused.ensures
+    let told = c in
+    let s = told in
+    lent_left (answered (c.before.before) told.in-Refused.is) (refusals_are_numbered.settling (record_of s.args.history.now) s.args.voll s.args.floor) c.refused.ensures
 
-returns-2 : tie.Need-returns-2
+returns-2 : tie.Need-returns-in-Accepted
 returns-2 c =
-    let told = c.before in
-    let called = told.before.before in
-    lent_laid (answered called told.enum_told.given.1) (c.values_of.ensures ∙ ap (λ (curves : Curves). curve_values curves.set) (settling called))
+    let told = c in
+    let called = told in
+    lent_laid (answered (c.before.before.before) told.in-Accepted.is) (c.values_of.ensures ∙ ap (λ (curves : Curves). curve_values curves.set) (settling (c.before.before.before)))
 
-pub ordc-settle-spec : {M : Type 1} → statement M
-ordc-settle-spec =
+pub ordc_settle_spec : {M : Type 1} → statement M
+ordc_settle_spec =
     tie.close
     (tie.spec
     record-of-requires

@@ -6,36 +6,36 @@ use Rattle.ordc.proofs.Numbered.{refusals_are_numbered}
 use Rattle.ordc.proofs.snapshot_length.ordc_snapshot_length.Statement.{statement}
 use Rattle.ordc.proofs.snapshot_length.ordc_snapshot_length.Tie as tie
 
-held-length-requires : tie.Need-held-length-requires
+held-length-requires : tie.Need-held_length-ended-requires
 held-length-requires c κs = tt
 
-enum-known-ended : tie.Need-enum-known-ended
-enum-known-ended c = c.match.keys1
+enum-known-ended : tie.Need-enum_known-ended
+enum-known-ended c = c.in-Refused-1.keys1
 
 refused-requires : tie.Need-refused-requires
 refused-requires c κs = tt
 
-enum-known-ended-2 : tie.Need-enum-known-ended-2
-enum-known-ended-2 c = c.match.keys2
+enum-known-ended-2 : tie.Need-enum_known-ended-in-Length-1
+enum-known-ended-2 c = c.in-Length-1.keys2
 
-returns : tie.Need-returns
+returns : tie.Need-returns-in-Refused
 returns c =
-    let told = c.before.before in
-    let called = told.before.before in
-    let a = called.before.before.args in
-    lent_left (length_other a.header.now a.ids.now a.numbers.now (sym called.held-length.ensures ∙ told.ended.given.1))
+    let told = c in
+    let called = told in
+    let a = called.args in
+    lent_left (length_other a.header.now a.ids.now a.numbers.now (sym called.held_length-ended.ensures ∙ told.in-Refused.is))
     (refusals_are_numbered.snapshot_length a.header.now a.ids.now a.numbers.now) c.refused.ensures
 
-returns-2 : tie.Need-returns-2
+returns-2 : tie.Need-returns-in-Length
 returns-2 c =
-    let told = c.before in
-    let called = told.before.before in
-    let a = called.before.before.args in
-    let given = length_told a.header.now a.ids.now a.numbers.now (sym called.held-length.ensures ∙ told.ended2.given.1) in
+    let told = c in
+    let called = told in
+    let a = called.args in
+    let given = length_told a.header.now a.ids.now a.numbers.now (sym called.held_length-ended.ensures ∙ told.in-Length.is) in
     lent_laid given.accepted given.is
 
-pub ordc-snapshot-length-spec : {M : Type 1} → statement M
-ordc-snapshot-length-spec =
+pub ordc_snapshot_length_spec : {M : Type 1} → statement M
+ordc_snapshot_length_spec =
     tie.close
     (tie.spec
     held-length-requires

@@ -10,51 +10,51 @@ use Rattle.ordc.proofs.Numbered.{refusals_are_numbered}
 use Rattle.ordc.proofs.write_page.ordc_write_page.Statement.{statement}
 use Rattle.ordc.proofs.write_page.ordc_write_page.Tie as tie
 
-curves-of-requires : tie.Need-curves-of-requires
+curves-of-requires : tie.Need-curves_of-requires
 curves-of-requires c κs = tt
 
-write-page-requires : tie.Need-write-page-requires
+write-page-requires : tie.Need-write_page-answer-requires
 write-page-requires c κs = tt
 
-enum-known-answer : tie.Need-enum-known-answer
-enum-known-answer c = c.match.keys1
+enum-known-answer : tie.Need-enum_known-answer
+enum-known-answer c = c.in-Refused-1.keys1
 
 refused-requires : tie.Need-refused-requires
 refused-requires c κs = tt
 
-enum_told : tie.Need-enum-told
-enum_told c = c.match.keys2
+enum_told : tie.Need-enum_told-1
+enum_told c = c.in-Accepted-1.keys2
 
-abbrev start : tie.After-write-page → tie.Start
+abbrev start : tie.After-write_page-answer → tie.Start
 start c = c.before.before.before.before.before
 
-abbrev set : tie.After-write-page → CurveSet
+abbrev set : tie.After-write_page-answer → CurveSet
 set c = curves_of (start c).args.curves.now
 
-written : (c : tie.After-write-page) → PageWritten (set c) (start c).args.buffer.now c.write-page.new.1.0 c.write-page.result
-written c = rw (← c.before.before.curves-of.ensures) c.write-page.ensures
+written : (c : tie.After-write_page-answer) → PageWritten (set c) (start c).args.buffer.now c.write_page-answer.new.buffer c.write_page-answer.result
+written c = rw (← c.curves_of.ensures) c.write_page-answer.ensures
 
-same_length : tie.Need-same-length
+same_length : tie.Need-shape_of-buffer-in-Refused
 same_length c = search rules
 
-returns : tie.Need-returns
+returns : tie.Need-returns-in-Refused
 returns c =
-    let told = c.before.before in
-    let called = told.before.before.before.before in
-    let e = sym (written called).ends ∙ told.answer.given.1 in
-    rw ((written called).bytes, page_refused_leaves (set called) (start called).args.buffer.now e)
-    (lent_left e (refusals_are_numbered.page (set called) (start called).args.buffer.now) c.refused.ensures)
+    let told = c in
+    let called = told in
+    let e = sym (written (c.before.before.before.before)).ends ∙ told.in-Refused.is in
+    rw ((written (c.before.before.before.before)).bytes, page_refused_leaves (set (c.before.before.before.before)) (start (c.before.before.before.before)).args.buffer.now e)
+    (lent_left e (refusals_are_numbered.page (set (c.before.before.before.before)) (start (c.before.before.before.before)).args.buffer.now) c.refused.ensures)
 
-same-length-2 : tie.Need-same-length-2
+same-length-2 : tie.Need-shape_of-buffer-in-Accepted
 same-length-2 c = search rules
 
-returns-2 : tie.Need-returns-2
+returns-2 : tie.Need-returns-in-Accepted
 returns-2 c =
-    let called = c.before.before.before.before in
-    lent_laid (sym (written called).ends ∙ c.enum_told.given.1) (written called).bytes
+    let called = c in
+    lent_laid (sym (written (c.before.before.before)).ends ∙ c.in-Accepted.is) (written (c.before.before.before)).bytes
 
-pub ordc-write-page-spec : {M : Type 1} → statement M
-ordc-write-page-spec =
+pub ordc_write_page_spec : {M : Type 1} → statement M
+ordc_write_page_spec =
     tie.close
     (tie.spec
     curves-of-requires

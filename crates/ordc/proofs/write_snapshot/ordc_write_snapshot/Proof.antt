@@ -20,17 +20,17 @@ use Rattle.ordc.proofs.Numbered.{refusals_are_numbered}
 use Rattle.ordc.proofs.write_snapshot.ordc_write_snapshot.Statement.{statement}
 use Rattle.ordc.proofs.write_snapshot.ordc_write_snapshot.Tie as tie
 
-write-held-requires : tie.Need-write-held-requires
+write-held-requires : tie.Need-write_held-ended-requires
 write-held-requires c κs = tt
 
-enum-known-ended : tie.Need-enum-known-ended
-enum-known-ended c = c.match.keys1
+enum-known-ended : tie.Need-enum_known-ended
+enum-known-ended c = c.in-Refused-1.keys1
 
 refused-requires : tie.Need-refused-requires
 refused-requires c κs = tt
 
-enum-known-ended-2 : tie.Need-enum-known-ended-2
-enum-known-ended-2 c = c.match.keys2
+enum-known-ended-2 : tie.Need-enum_known-ended-in-Length-1
+enum-known-ended-2 c = c.in-Length-1.keys2
 
 module _ (header : List ℤ) (ids : List ℕ) (numbers : List ℤ) (buffer : List ℕ) {buffer' : List ℕ} {ended : HeldText} (written : HeldWritten header ids numbers buffer buffer' ended) where
   called-refused :
@@ -51,31 +51,31 @@ module _ (header : List ℤ) (ids : List ℕ) (numbers : List ℤ) (buffer : Lis
             written.bytes;
       }
 
-abbrev start : tie.After-write-held → tie.Start
+abbrev start : tie.After-write_held-ended → tie.Start
 start c = c.before.before.before.before
 
-same_length : tie.Need-same-length
+same_length : tie.Need-shape_of-buffer-in-Refused
 same_length c = omega arith
 
-returns : tie.Need-returns
+returns : tie.Need-returns-in-Refused
 returns c =
-    let told = c.before.before in
-    let held = told.before.before.before.before in
-    let a = (start held).args in
-    called-refused a.header.now a.ids.now a.numbers.now a.buffer.now held.write-held.ensures told.ended.given.1 c.refused.ensures
+    let told = c in
+    let held = told in
+    let a = (start (c.before.before.before.before)).args in
+    called-refused a.header.now a.ids.now a.numbers.now a.buffer.now held.write_held-ended.ensures told.in-Refused.is c.refused.ensures
 
-same-length-2 : tie.Need-same-length-2
+same-length-2 : tie.Need-shape_of-buffer-in-Length
 same-length-2 c = omega arith
 
-returns-2 : tie.Need-returns-2
+returns-2 : tie.Need-returns-in-Length
 returns-2 c =
-    let told = c.before in
-    let held = told.before.before.before.before in
-    let a = (start held).args in
-    called-accepted a.header.now a.ids.now a.numbers.now a.buffer.now held.write-held.ensures told.ended2.given.1
+    let told = c in
+    let held = told in
+    let a = (start (c.before.before.before)).args in
+    called-accepted a.header.now a.ids.now a.numbers.now a.buffer.now held.write_held-ended.ensures told.in-Length.is
 
-pub ordc-write-snapshot-spec : {M : Type 1} → statement M
-ordc-write-snapshot-spec =
+pub ordc_write_snapshot_spec : {M : Type 1} → statement M
+ordc_write_snapshot_spec =
     tie.close
     (tie.spec
     write-held-requires
