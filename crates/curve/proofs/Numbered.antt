@@ -1,10 +1,10 @@
 -- Every refusal on history and curves has one of the numbers 1 to 14; that of a curve text is at a line of the text or the one after its last.
-use Prim.Native.Nat.{ℕ, ◌+◌, ◌≤◌}
+use Prim.Native.Nat.{ℕ, ◌≤◌}
 use native.Mathlib.Omega.{arith}
 use mathlib.Core.List.{List}
-use mathlib.Core.Path.{◌≡◌, refl, subst}
+use mathlib.Core.Path.{◌≡◌, subst}
 use lib.IntN.{ℤ, pos, nat_abs}
-use lib.ListN.{length, replicate}
+use lib.ListN.{replicate}
 use Rattle.text_refusal.specs.Refusal.{fault, refusal_of}
 use Rattle.text_refusal.specs.declared.refusal.Fault.{Fault}
 use Rattle.text_refusal.specs.declared.refusal.Refusal.{Refusal}

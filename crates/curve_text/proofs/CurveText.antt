@@ -16,7 +16,7 @@ use Rattle.text_refusal.specs.declared.refusal.Fault.{Fault}
 use Rattle.text_refusal.specs.declared.refusal.Refusal.{Refusal}
 use Rattle.text_refusal.proofs.Choices.{chosen, passed_over}
 use Rattle.text_line.specs.Field.{Field}
-use Rattle.text_schema.specs.Schema.{read_fields, write_fields, repeated, number_fields, keys_of, laid_over, placed_fields, LinesRead}
+use Rattle.text_schema.specs.Schema.{read_fields, write_fields, number_fields, keys_of, laid_over, placed_fields, LinesRead}
 use Rattle.text_schema.proofs.Fields.{keys_computed, schema_computed, repeated_computed}
 use Rattle.text_schema.proofs.Readings.{reading_length}
 use Rattle.text_line.specs.declared.Lines.{Lines}

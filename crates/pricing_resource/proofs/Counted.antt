@@ -1,7 +1,7 @@
 -- Which units are counted: what it depends on, and that no unit is counted twice.
 use mathlib.Core.Path.{◌≡◌, refl}
 use mathlib.Core.Bool.{Bool, true, false, ◌&&◌}
-use lib.IntN.{ℤ, pos, ◌*ℤ◌}
+use lib.IntN.{pos, ◌*ℤ◌}
 use lib.Signed.{le_z}
 use Rattle.pricing_resource.specs.Online.{is_gen_or_wind, is_running, counted_online}
 use Rattle.pricing_resource.specs.Offline.{counted_offline}

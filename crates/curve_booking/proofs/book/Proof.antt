@@ -5,8 +5,6 @@ use borrow.Author.Rules.{sfits_of}
 use mir.Syntax.{w64}
 use mir.Val.{SFits}
 use mir.Facts.{to_z-of_z}
-use Rattle.curve_hour.specs.declared.read.ReadHour.TheVariants as read-hour
-use Rattle.curve_hour.specs.Hour.{hour_in, error_answer}
 use Rattle.curve_record.specs.Possible.{record_possible}
 use Rattle.curve_booking.specs.Booking.{booked}
 use Rattle.curve_booking.proofs.Booked.{answer_refused, answer_error, error_group_below}

@@ -4,7 +4,7 @@ use native.Mathlib.Omega.{arith}
 use Prim.Native.Nat.{ℕ, ◌*◌, ◌-◌, ◌≤◌, ◌<◌}
 use mathlib.Core.List.{List}
 use mathlib.Core.Path.{◌≡◌, refl, sym, ap, ◌∙◌}
-use lib.ListN.{length, take, get_or, length-map}
+use lib.ListN.{length, take, get_or}
 use lib.Seq.{take_all}
 use lib.IntN.{pos}
 use Rattle.text_writer.specs.Write.{laid_at}

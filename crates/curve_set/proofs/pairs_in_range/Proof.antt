@@ -8,7 +8,7 @@ use native.Mathlib.Omega.{arith}
 use borrow.Author.Tests.{not-true, not-false}
 use lib.IntN.{pos}
 use borrow.Author.Rules.{rules}
-use lib.ListN.{length, get_or, drop, length-map, drop_of_length-le}
+use lib.ListN.{length, get_or, drop, drop_of_length-le}
 use lib.Seq.{drop-cons}
 use Rattle.curve_set.specs.Curves.{pair_in_range, pairs_in_range}
 use Rattle.curve_set.specs.declared.Pair.{Pair}

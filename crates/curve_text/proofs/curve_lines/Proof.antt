@@ -1,7 +1,5 @@
 -- `curve_text::curve_lines` meets its contract: a refused line, or the end of the text.
 use native.Mathlib.Omega.{arith}
-use mathlib.Core.Path.{refl}
-use Rattle.text_refusal.specs.Bytes.{bytes}
 use Rattle.curve_text.proofs.CurveText.{CurveLinesRead, curve_lines_read, line_refused, lines_read}
 use Rattle.curve_text.proofs.curve_lines.Statement.{statement}
 use Rattle.curve_text.proofs.curve_lines.Tie as tie

@@ -3,7 +3,6 @@ use native.Mathlib.Omega.{arith}
 use mathlib.Core.Bool.{true}
 use mathlib.Core.Path.{◌≡◌, sym, ◌∙◌}
 use borrow.Author.Tests.{not-true, not-false}
-use Rattle.text_refusal.specs.Bytes.{bytes}
 use Rattle.text_writer.specs.Write.{TextWritten}
 use Rattle.curve_set.specs.Curves.{curves_in_range}
 use Rattle.curve_text.specs.CurveText.{curve_text}

@@ -1,6 +1,5 @@
 use native.Mathlib.Omega.{arith}
 use mathlib.Core.Path.{refl, ◌∙◌}
-use Rattle.text_refusal.specs.Bytes.{bytes}
 use Rattle.curve_hour.proofs.Values.{held}
 use Rattle.curve_hour.proofs.Runs.{run_held, one_refused, one_read}
 use Rattle.curve_hour.proofs.intervals.run_at.Statement.{statement}

@@ -1,7 +1,6 @@
 -- The hour's own lines are read by their schema.
 use native.Mathlib.Omega.{arith}
 use mathlib.Core.Path.{refl, ◌∙◌}
-use Rattle.text_refusal.specs.Bytes.{bytes}
 use Rattle.curve_hour.proofs.Hours.{hour_long, hour_refused, own_bounded, next_within, runs_few, runs_left}
 use Rattle.curve_hour.proofs.read.read_hour.Statement.{statement}
 use Rattle.curve_hour.proofs.read.read_hour.Tie as tie

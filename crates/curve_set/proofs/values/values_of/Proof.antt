@@ -5,7 +5,7 @@ use Prim.Native.Nat.{◌+◌, ◌*◌, ◌-◌, ◌≤◌, ◌<◌}
 use mathlib.Core.List.{◌∷◌, ◌++◌, append-nil}
 use mathlib.Core.Path.{◌≡◌, refl, sym, ap₂, ◌∙◌}
 use borrow.Author.Rules.{rules}
-use lib.ListN.{length, take, drop, length-map, length-set, drop_of_length-le}
+use lib.ListN.{length, take, drop, length-set, drop_of_length-le}
 use lib.Seq.{take_all}
 use lib.IntN.{ℤ}
 use mir.Facts.{to_z-of_z}

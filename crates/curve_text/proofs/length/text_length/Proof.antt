@@ -5,7 +5,7 @@ use borrow.Author.Rules.{sfits_of}
 use Prim.Native.Nat.{◌+◌, ◌-◌, ◌*◌, ◌≤◌}
 use mathlib.Core.Path.{◌≡◌, ap, ◌∙◌}
 use lib.IntN.{ℤ, pos}
-use lib.ListN.{length, drop, get_or, length-map}
+use lib.ListN.{length, drop, get_or}
 use mir.Facts.{to_z-of_z}
 use mir.Syntax.{w64}
 use mir.Val.{SFits}

@@ -4,9 +4,6 @@ use borrow.Author.Rules.{rules, sfits_of}
 use mir.Facts.{to_z-of_z}
 use Rattle.pricing_resource.proofs.suspect.marks_turn_back.Statement.{statement}
 use Rattle.pricing_resource.proofs.suspect.marks_turn_back.Tie as tie
-use Rattle.pricing_resource.proofs.suspect.marks_turn_back.Reads as reads
-use Rattle.pricing_resource.proofs.suspect.marks_turn_back.Lts as lts
-use Rattle.pricing_resource.proofs.suspect.verdict.Reads as verdict-reads
 
 enum-known-resource : tie.Need-enum_known-resource
 enum-known-resource c = search rules

@@ -1,6 +1,5 @@
 use native.Mathlib.Omega.{arith}
 use Prim.Native.Nat.{◌≤◌}
-use borrow.Author.Tests.{not-true, not-false}
 use mathlib.Core.Path.{sym, ◌∙◌}
 use Rattle.pricing_resource.proofs.Suspects.{before_few, lines_few, place_unmarked, place_fine, place_suspect}
 use Rattle.pricing_resource.proofs.suspect.suspect_place.Statement.{statement}

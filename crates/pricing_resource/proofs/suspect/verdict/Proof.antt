@@ -1,13 +1,8 @@
-use native.Mathlib.Omega.{arith}
 use borrow.Author.Rules.{rules}
 use mathlib.Core.Path.{◌∙◌}
 use mir.Facts.{to_z-of_z}
 use Rattle.pricing_resource.proofs.suspect.verdict.Statement.{statement}
 use Rattle.pricing_resource.proofs.suspect.verdict.Tie as tie
-use Rattle.pricing_resource.proofs.suspect.verdict.Reads as reads
-use Rattle.pricing_resource.proofs.suspect.verdict.Lts as lts
-use Rattle.pricing_resource.proofs.offline.counted_offline.Reads as counted-offline-reads
-use Rattle.pricing_resource.proofs.online.is_gen_or_wind.Reads as is-gen-or-wind-reads
 
 enum_told : tie.Need-enum_told-1
 enum_told c = search rules
