@@ -9,6 +9,7 @@ ghost use Rattle.text_id_table.specs.Table.{hash_of, slot_of};
 use text_word::is_word;
 
 // The bytes before the first mark; all of them where there is none.
+#[tactic(auto, using(crate::proofs::Ids::before_start, crate::proofs::Ids::before_over, crate::proofs::Ids::before_marked, crate::proofs::Ids::before_more))]
 fn before_mark<'a>(bytes: &'a [u8], mark: u8) -> &'a [u8]
     ensures { result.now ≡ before mark bytes.now }
 {
@@ -54,6 +55,7 @@ fn hash_of(id: &[u8]) -> usize
 
 // The slot of an id: the first from its bucket on that is empty or leads to the same id; past the last where there is none. A slot holds one more than the
 // position at which its id starts, and 0 where it is empty. The first half of the slots are buckets.
+#[tactic(auto, using(crate::proofs::Slots::slot_past, crate::proofs::Slots::slot_start, crate::proofs::Slots::slot_over, crate::proofs::Slots::slot_none, crate::proofs::Slots::slot_same, crate::proofs::Slots::slot_more))]
 pub fn slot_of(bytes: &[u8], mark: u8, starts: &[usize], id: &[u8]) -> usize
     ensures { result ≡ slot_of mark bytes.now starts.now id.now }
 {

@@ -20,6 +20,7 @@ fn line_end(text: &[u8], at: usize) -> usize
 }
 
 // Whether a text begins with a key, all of it in the text's first line.
+#[tactic(auto, using(crate::proofs::DueLines::begins_few, crate::proofs::DueLines::begins_over, crate::proofs::DueLines::begins_ended, crate::proofs::DueLines::begins_differs, crate::proofs::DueLines::begins_same))]
 pub fn begins_with(text: &[u8], key: &[u8]) -> bool
     ensures { result ≡ begins key.now (take (line_length text.now) text.now) }
 {

@@ -6,3 +6,4 @@ pub mod Fields
 pub mod Marks
 pub mod WrittenDigits
 pub mod MarkedDigits
+pub mod LastByte

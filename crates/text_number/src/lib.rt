@@ -43,6 +43,7 @@ fn signed(negative: bool, distance: u64) -> i64
 }
 
 // Whether a number is outside a range; one that no machine number equals is outside every range.
+#[tactic(auto, using(crate::proofs::Numbers::far_outside))]
 fn is_outside(negative: bool, distance: u64, low: i64, high: i64) -> bool
     ensures { result ≡ is_outside low high (signed negative distance) }
 {

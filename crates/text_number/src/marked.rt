@@ -49,6 +49,7 @@ pub fn plain_number(n: Number) -> MarkedNumber
 }
 
 // The bytes of a value, read as a number from low to high that may be marked.
+#[tactic(auto, using(crate::proofs::LastByte::last_byte))]
 pub fn marked_of(value: &[u8], low: i64, high: i64) -> MarkedNumber
     ensures { result ≡ marked_in low high value.now }
 {

@@ -44,6 +44,7 @@ fn large_natural(digits: &[u8]) -> Natural
 }
 
 // The natural number that bytes write: at least one digit, digits alone, no leading zero.
+#[tactic(auto, using(crate::proofs::Naturals::digits_start, crate::proofs::Naturals::digits_next, crate::proofs::Naturals::digits_fit, crate::proofs::Naturals::digits_below, crate::proofs::Naturals::digits_above, crate::proofs::Naturals::held_broken, crate::proofs::Naturals::held_one, crate::proofs::Naturals::held_no_bytes, crate::proofs::Naturals::held_zero_led, crate::proofs::Naturals::held_many))]
 pub(crate) fn natural_of(digits: &[u8]) -> Natural
     ensures { result ≡ held_natural digits.now }
 {

@@ -17,6 +17,7 @@ pub struct Refusal {
 }
 
 // How many lines end before a position.
+#[tactic(auto, using(crate::proofs::Refusals::ended_here, crate::proofs::Refusals::ended_over, crate::proofs::Refusals::ended_one, crate::proofs::Refusals::ended_other))]
 fn ended_lines(text: &[u8], at: usize) -> usize
     ensures { result ≡ ended_lines at text.now }
 {

@@ -21,6 +21,7 @@ fn least(a: usize, b: usize) -> usize
 
 // The lines that are due at a position, each a number under its key within its bounds, into the first places of `out`: as many lines as there are keys,
 // bounds and places.
+#[tactic(auto, using(crate::proofs::Schemas::lines_start, crate::proofs::Schemas::lines_full, crate::proofs::Schemas::lines_keys))]
 pub fn read_lines(
     text: &[u8],
     at: usize,
