@@ -1,5 +1,6 @@
 -- Laws that the proofs of several functions share, and that crates above cite.
 pub mod Keys
+pub mod WholeKeys
 pub mod Laid
 pub mod Writing
 pub mod Refused
@@ -7,4 +8,5 @@ pub mod BySchema
 pub mod ShortLines
 pub mod MarkedLines
 pub mod Counted
+pub mod DigitCount
 pub mod Rows

@@ -25,6 +25,7 @@ pub enum Written {
 }
 
 // How many digits a number has, four at a time: most numbers need one division or none, and no test that is hard to foresee.
+#[tactic(auto, using(text_number::proofs::WrittenDigits::count_bound, crate::proofs::DigitCount::one_at_most))]
 fn digit_count(mut n: u64) -> usize
     ensures { result ≡ length (digits_of n) }
 {
@@ -37,6 +38,7 @@ fn digit_count(mut n: u64) -> usize
 }
 
 // How many bytes a number has as it is written.
+#[tactic(auto, using(text_number::proofs::WrittenDigits::count_bound, crate::proofs::DigitCount::one_at_most))]
 pub fn number_length(z: i64) -> usize
     ensures { result ≡ length (written_number z) }
 {
@@ -162,6 +164,7 @@ fn lines_fit(keys: &[u8], values: &[i64], room: usize) -> bool
 }
 
 // The keys up to the last `=`: what follows it is no key.
+#[tactic(auto, using(crate::proofs::WholeKeys::whole_before, crate::proofs::WholeKeys::keys_before))]
 fn whole_keys<'a>(keys: &'a [u8]) -> &'a [u8]
     ensures { (keys_of result.now ≡ keys_of keys.now) × WholeKeys result.now }
 {

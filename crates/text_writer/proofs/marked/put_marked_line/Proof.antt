@@ -1,6 +1,5 @@
 -- The line of the number, and where it is marked, the mark in place of byte 10.
 use native.Mathlib.Omega.{arith}
-use borrow.Author.Rules.{rules}
 use Prim.Native.Nat.{ℕ, ◌+◌, ◌≤◌}
 use mathlib.Core.Bool.{Bool, true, cond}
 use mathlib.Core.Path.{◌≡◌, sym, ap, ◌∙◌}
