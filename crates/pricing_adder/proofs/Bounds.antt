@@ -1,22 +1,20 @@
 -- What the tests of curves, sums and header leave: magnitudes, by which every step of pricing fits its machine number.
-use Prim.Native.Nat.{ℕ, zero, suc, ◌+◌, ◌≤◌, ◌*◌}
+use Prim.Native.Nat.{ℕ, ◌≤◌, ◌*◌}
 use native.Mathlib.Nat.{le_refl, mul-le-mul}
-use mathlib.Core.Path.{◌≡◌, refl}
+use mathlib.Core.Path.{◌≡◌}
 use mathlib.Core.Bool.{Bool, true, false, cond}
-use mathlib.Core.List.{List, [], ◌∷◌}
 use native.Mathlib.Omega.{arith}
-use lib.IntN.{ℤ, pos, neg_ℤ, nat_abs, ◌+ℤ◌, ◌-ℤ◌, ◌*ℤ◌}
+use lib.IntN.{ℤ, pos, nat_abs, ◌+ℤ◌, ◌-ℤ◌, ◌*ℤ◌}
 use lib.ListN.{get_or}
 use lib.Signed.{le_z}
 use mir.Syntax.{w64}
 use mir.Val.{SFits}
-use Rattle.integer.specs.Order.{min_ℤ, max_ℤ}
+use Rattle.integer.specs.Order.{max_ℤ}
 use Rattle.integer.proofs.Bounds.{abs_add, abs_sub, abs_mul, abs_min, abs_max, abs_fits}
 use Rattle.integer.proofs.Floor.{floor_bound}
 use Rattle.curve_probability.proofs.ProbabilityOrder.{online_le, offline_le}
 use Rattle.curve_set.specs.Curves.{curves_in_range}
 use Rattle.curve_set.proofs.InRange.{voll_small, floor_small, mean_small, spread_small}
-use Rattle.integer.specs.Range.{within}
 use Rattle.curve_set.specs.declared.Pair.{Pair}
 use Rattle.curve_set.specs.declared.CurveSet.{CurveSet}
 use Rattle.pricing_sums.proofs.Headers.{HeaderBound}

@@ -9,7 +9,6 @@ use lib.IntN.{ℤ, nat_abs}
 use lib.ListN.{take, drop, get_or, set}
 use lib.Seq.{get_or-drop, drop-drop}
 use Rattle.text_refusal.specs.Answer.{refusal}
-use Rattle.text_refusal.specs.Bytes.{bytes}
 use Rattle.text_refusal.specs.declared.answer.Answer.{Answer}
 use Rattle.text_id.specs.Id.{id_in}
 use Rattle.text_id.specs.declared.Id.{Id}

@@ -4,7 +4,7 @@ use native.Mathlib.Nat.{add-zero, sub-zero}
 use native.Mathlib.Numerals.{add-one}
 use native.Mathlib.Omega.{arith}
 use mathlib.Core.Bool.{Bool, true, false, cond}
-use mathlib.Core.List.{List, [], ◌∷◌, map}
+use mathlib.Core.List.{List, ◌∷◌, map}
 use mathlib.Core.Path.{◌≡◌, refl, sym, ap, ◌∙◌}
 use borrow.Author.Tests.{le-ltb}
 use lib.IntN.{ℤ, pos, nat_abs}
@@ -18,7 +18,6 @@ use Rattle.pricing_resource.specs.Suspect.{marks, resource_line_count, suspect_p
 use Rattle.pricing_resource.specs.declared.Generator.{Generator}
 use Rattle.pricing_resource.specs.declared.Controllable.{Controllable}
 use Rattle.pricing_resource.specs.declared.Load.{Load}
-use Rattle.pricing_resource.specs.declared.Resource.{Resource}
 use Rattle.pricing_resource.specs.declared.Resource.TheVariants as resource
 use Rattle.pricing_resource.proofs.Suspects.{place_unmarked, generator_place, controllable_place, load_place, suspect_none, suspect_here, suspect_later}
 use Rattle.pricing_resource_text.specs.Resource.{status_of}

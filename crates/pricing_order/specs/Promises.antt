@@ -1,6 +1,6 @@
 -- The one argument on prices, over sums and header numbers: neither price rises when a sum is not lower, PRC is not lower, `short` is not higher, and the mean is
 -- not higher, where neither the factor nor the off-line sum is below 0. Off-line ≤ on-line ≤ max(0, VOLL - lambda).
-use Rattle.std.specs.Prelude.{◌≤◌, ◌≡◌, ℤ, pos, ◌≤ℤ◌}
+use Rattle.std.specs.Prelude.{◌≤◌, ◌≡◌, pos, ◌≤ℤ◌}
 use Rattle.curve_set.specs.declared.CurveSet.{CurveSet}
 use Rattle.pricing_adder.specs.Price.{pair_for, prices_of, value_of_reserve}
 use Rattle.pricing_sums.specs.Sums.{SumsNotLower}

@@ -1,6 +1,6 @@
 -- What reading gives is in range: each value of lines that were read lies within its field's bounds, so a header and resources that were read are in range,
 -- and there are as many resources as `count` says.
-use Prim.Native.Nat.{ℕ, zero, suc, ◌<◌}
+use Prim.Native.Nat.{ℕ, zero, suc}
 use native.Mathlib.Omega.{arith}
 use mathlib.Core.Path.{◌≡◌, refl, subst, sym, ◌∙◌}
 use mathlib.Core.List.{List}

@@ -1,5 +1,5 @@
 -- Document 01, "Snapshot to reserves": what each resource adds to the sums before the factor (000, 2.2.1).
-use Rattle.std.specs.Prelude.{List, [], ◌∷◌, ℤ, pos, ◌+ℤ◌, ◌-ℤ◌, cond}
+use Rattle.std.specs.Prelude.{List, [], ◌∷◌, pos, ◌+ℤ◌, ◌-ℤ◌, cond}
 use Rattle.pricing_sums.specs.Sums.{no_sums, plus}
 use Rattle.pricing_sums.specs.declared.Sums.{Sums}
 use Rattle.pricing_resource.specs.Flag.{is_one}

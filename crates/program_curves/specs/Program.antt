@@ -1,6 +1,6 @@
 -- Document 01, "Programs": `curves` reads a `voll` line, a `floor` line, then hours, each followed by an empty line that is no part of it; it prints the curve
 -- text. The first refusal ends the program, and nothing else is printed.
-use Rattle.std.specs.Prelude.{ℕ, ◌+◌, Bool, true, ◌&&◌, cond, List, [], ◌∷◌, ◌++◌, eqb, ℤ, take, drop}
+use Rattle.std.specs.Prelude.{ℕ, Bool, true, ◌&&◌, cond, List, [], ◌∷◌, ◌++◌, eqb, ℤ, take, drop}
 use Rattle.text_refusal.specs.Bytes.{bytes}
 use Rattle.text_line.specs.Field.{Field, LineAnswer, got, refused, field_at}
 use Rattle.curve_record.specs.Record.{fresh}

@@ -1,5 +1,5 @@
 -- What is printed has at most 1728 bytes: a page has just as many, and the number and line of a refusal are small.
-use Prim.Native.Nat.{ℕ, ◌≤◌}
+use Prim.Native.Nat.{◌≤◌}
 use native.Mathlib.Omega.{arith}
 use mathlib.Core.Bool.{Bool, true, false}
 use mathlib.Core.Path.{◌≡◌, refl}

@@ -45,7 +45,6 @@ module _ (c : tie.After-lay_numbers-laid) where
   rows-read : resources_at resource_at start.args.count [] start.args.text.now c.lay_numbers-laid.result.next ≡ got start.requires.entries (lines start).last
   rows-read = moved start.args.text.now start.requires.counted header-laid.0 (lines start).entries_read
 
-
 lay-rows-requires : tie.Need-lay_rows-requires
 lay-rows-requires c κs =
     let n = c in

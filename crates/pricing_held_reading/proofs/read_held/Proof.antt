@@ -48,7 +48,6 @@ module _ (c : tie.After-magnitude-count) where
   counted : c.magnitude-count.result ≡ nat_abs header.count
   counted = c.magnitude-count.ensures ∙ ap nat_abs (to_z-of_z {w = w64} {z = header.count} (sfits_of c.struct_told-1.given.1.1.1.1.1.1.1.0.1))
 
-
 returns-2 : tie.Need-returns-then-held_count-count
 returns-2 c =
     let m = c in

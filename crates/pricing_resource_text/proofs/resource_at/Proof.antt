@@ -1,7 +1,7 @@
 -- The kind's line by the laws of a line that holds a word; what follows it by the lines of the kind.
 use native.Mathlib.Omega.{arith}
 use mathlib.Core.List.{List}
-use mathlib.Core.Path.{◌≡◌, refl, ◌∙◌}
+use mathlib.Core.Path.{refl, ◌∙◌}
 use Prim.Native.Nat.{ℕ, ◌≤◌}
 use lib.ListN.{length}
 use Rattle.text_refusal.specs.Bytes.{bytes}

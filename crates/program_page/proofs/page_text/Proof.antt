@@ -1,7 +1,6 @@
 -- Each way to the end prints what the definition says.
 use mathlib.Core.Path.{sym, ap, ◌∙◌}
 use borrow.Author.Rules.{rules}
-use Rattle.text_refusal.specs.declared.answer.Answer.TheVariants as answer
 use Rattle.curve_set.specs.declared.Curves.{Curves}
 use Rattle.curve.proofs.CurveRoundTrip.{read_curves_are_in_range}
 use Rattle.program_page.proofs.Printing.{curves_refused, curves_printed}

@@ -1,7 +1,7 @@
 -- A set in range is refused for a short buffer alone.
 use mathlib.Core.Path.{◌≡◌, subst}
 use borrow.Author.Rules.{rules}
-use lib.ListN.{length, length-map}
+use lib.ListN.{length}
 use Rattle.curve_page.specs.Page.{PageWritten}
 use Rattle.program_page.proofs.Printing.{page_stands, page_short}
 use Rattle.program_page.proofs.print_page.Statement.{statement}

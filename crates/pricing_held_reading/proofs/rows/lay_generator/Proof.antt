@@ -83,7 +83,6 @@ module _ (c : tie.After-lay_numbers-six) {one : Resource} {next : ℕ} (g : Gene
   marks-small : marks_of g.numbers.values < 256
   marks-small = marks_fit text found.status_at-status.result.next (4 ∷ 4 ∷ 4 ∷ 5 ∷ 8 ∷ 7 ∷ []) g.numbers.values next (numbers-stand found g) (omega arith)
 
-
 cast-row-3 : tie.Need-overflow_cast-row-3
 cast-row-3 c =
     let l = c in

@@ -1,6 +1,6 @@
 -- The lines of the numbers: as numbers alone where the row has no mark.
 use native.Mathlib.Omega.{arith}
-use borrow.Author.Rules.{sfits_of, rules}
+use borrow.Author.Rules.{sfits_of}
 use mathlib.Core.Path.{◌≡◌, ap}
 use lib.ListN.{length}
 use Rattle.text_refusal.specs.Bytes.{bytes}

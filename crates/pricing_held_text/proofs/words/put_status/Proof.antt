@@ -1,9 +1,7 @@
 -- A way through the `match` knows the place of the word, or that it is past the last.
 use native.Mathlib.Omega.{arith}
-use borrow.Author.Rules.{rules}
 use Rattle.text_word.proofs.Words.{written_listed, word_past}
 use Rattle.pricing_resource_text.specs.Resource.{status_words}
-use Rattle.pricing_held_text.proofs.Listed.{none_below}
 use Rattle.pricing_held_text.proofs.words.put_status.Statement.{statement}
 use Rattle.pricing_held_text.proofs.words.put_status.Tie as tie
 

@@ -2,7 +2,6 @@
 use native.Mathlib.Omega.{arith}
 use Rattle.text_word.proofs.Words.{written_listed, word_past}
 use Rattle.pricing_resource_text.specs.Resource.{status_words}
-use Rattle.pricing_held_text.proofs.Listed.{none_below}
 use Rattle.pricing_held_text.proofs.words.status_length.Statement.{statement}
 use Rattle.pricing_held_text.proofs.words.status_length.Tie as tie
 

@@ -1,7 +1,7 @@
 -- The words are tried in the order of the list: each that is not the value is passed, the first that is gives its place.
 use mathlib.Core.Bool.{true, false}
 use mathlib.Core.List.{List}
-use mathlib.Core.Path.{◌≡◌, refl, sym, ◌∙◌}
+use mathlib.Core.Path.{◌≡◌, sym, ◌∙◌}
 use Prim.Native.Nat.{ℕ}
 use Rattle.text_refusal.specs.Bytes.{bytes}
 use Rattle.text_word.specs.Word.{same_bytes}

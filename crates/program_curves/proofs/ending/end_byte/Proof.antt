@@ -1,9 +1,8 @@
-use mathlib.Core.Path.{◌≡◌, refl, sym, ◌∙◌}
+use mathlib.Core.Path.{◌≡◌, sym, ◌∙◌}
 use native.Mathlib.Nat.{sub-zero}
 use Rattle.program_curves.specs.declared.Stage.TheVariants as stage
 use Rattle.program_curves.proofs.OneByte.{hour_end, hour_full}
 use Rattle.program_curves.proofs.Feeding.{line_stops, hour_stops}
-use Rattle.program_curves.specs.internal.Feeding.{stage_at}
 use native.Mathlib.Omega.{arith}
 use Rattle.program_curves.proofs.ending.end_byte.Statement.{statement}
 use Rattle.program_curves.proofs.ending.end_byte.Tie as tie

@@ -1,7 +1,5 @@
 use mathlib.Core.Path.{◌≡◌, refl}
-use mathlib.Core.List.{[], ◌∷◌}
 use native.Mathlib.Nat.{sub-zero}
-use types.Run.{miss}
 use Rattle.program_curves.specs.Stream.{state_of, finished}
 use Rattle.program_curves.specs.declared.Stage.TheVariants as stage
 use borrow.Author.Rules.{rules}

@@ -1,5 +1,3 @@
-use mathlib.Core.Path.{refl}
-use Rattle.text_refusal.specs.Bytes.{bytes}
 use borrow.Author.Rules.{rules}
 use Rattle.program_curves.proofs.output.print_refusal.Statement.{statement}
 use Rattle.program_curves.proofs.output.print_refusal.Tie as tie

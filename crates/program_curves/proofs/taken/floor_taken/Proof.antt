@@ -3,7 +3,7 @@ use mir.Syntax.{w64}
 use mir.Facts.{to_z-of_z}
 use mir.Val.{to_z, of_z}
 use mathlib.Core.List.{List, []}
-use mathlib.Core.Path.{◌≡◌, refl, ap, ◌∙◌}
+use mathlib.Core.Path.{◌≡◌, ap, ◌∙◌}
 use Prim.Native.Nat.{ℕ}
 use lib.IntN.{ℤ, pos}
 use Rattle.text_refusal.specs.Bytes.{bytes}
@@ -12,7 +12,7 @@ use Rattle.text_line.specs.Line.{value_fault}
 use Rattle.text_line.specs.Field.{LineAnswer, refused, field_at}
 use Rattle.text_number.specs.Number.{number_refusal}
 use Rattle.text_number.specs.declared.Number.{Number}
-use Rattle.text_number.proofs.Fields.{not_taken, number_got, number_refused}
+use Rattle.text_number.proofs.Fields.{number_got, number_refused}
 use Rattle.curve_text.specs.CurveText.{floor_field}
 use Rattle.program_curves.specs.Stream.{state_of, stream_of, refused_settle, floor_taken}
 use Rattle.program_curves.specs.declared.Stream.{Stream}
