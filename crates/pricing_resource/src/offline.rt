@@ -16,6 +16,7 @@ fn is_gen_or_nuke(kind: Kind) -> bool
 }
 
 // Whether the HSL of a unit is counted off line.
+#[tactic(auto, using(crate::proofs::Flags::flag_set, crate::proofs::Flags::flag_not_set), unfolding(crate::specs::Offline::counted_offline))]
 pub fn counted_offline(kind: Kind, status: Status, cold30: i32) -> bool
     ensures { result ≡ counted_offline kind status cold30 }
 {

@@ -23,6 +23,7 @@ fn verdict(kind: Kind, status: Status, cold30: i32) -> bool
 }
 
 // Whether a marked number of a resource turns the snapshot back.
+#[tactic(auto, using(crate::proofs::Suspects::generator_verdict, crate::proofs::Suspects::controllable_verdict))]
 fn marks_turn_back(resource: Resource) -> bool
     ensures { result ≡ marks_turn_back resource }
 {
@@ -71,6 +72,7 @@ fn lines_before_numbers(resource: Resource) -> usize
 }
 
 // How many numbers stand before the first marked one; 5 where none of the first five is marked.
+#[tactic(auto, using(crate::proofs::Suspects::counting_start, crate::proofs::Suspects::counting_more))]
 fn unmarked_before(marks: u64) -> usize
     ensures { result ≡ unmarked_before 5 marks }
 {
