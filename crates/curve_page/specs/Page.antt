@@ -38,7 +38,7 @@ mean_cell pair = aligned_right 9 (written_number pair.mean)
 abbrev pub spread_cell : Pair → List ℕ
 spread_cell pair = aligned_right 8 (written_number pair.spread)
 
--- pins at X plus so many kW …
+-- piNS at X plus so many kW …
 unfoldable pub probability_above : ℤ → Pair → ℕ → ℕ
 probability_above floor pair above = offline_probability (floor +ℤ pos above) floor pair.mean (nat_abs pair.spread)
 

@@ -38,7 +38,7 @@ never_rises reserve reserve' floor n n' d h k = go (le_z reserve floor) refl
 none_left : (n : ℤ) (d : ℕ) → pos (500 * d) ≤ℤ n → 1000000000 - normal n d ≡ 0
 none_left n d h = omega (arith, normal_full n d h)
 
--- ---- pis and pins
+-- ---- piS and piNS
 
 module _ (reserve floor mean : ℤ) (spread : ℕ) where
   pub online_le : online_probability reserve floor mean spread ≤ 1000000000
@@ -133,7 +133,7 @@ offline_above above floor floor' mean spread =
     numerators : (x x' a m : ℤ) → pos 100 *ℤ ((x +ℤ a) -ℤ x -ℤ m) ≡ pos 100 *ℤ ((x' +ℤ a) -ℤ x' -ℤ m)
     numerators x x' a m = rw (view x, view x', view a, view m) (simp to_ℕ (omega arith))
 
--- pins at several reserves above X, wherever X lies
+-- piNS at several reserves above X, wherever X lies
 pub offline_many : (above : List ℕ) (floor mean : ℤ) (spread : ℕ) →
     offline_probabilities above mean spread ≡ map (λ (distance : ℕ). offline_probability (floor +ℤ pos distance) floor mean spread) above
 unfolding offline_probabilities

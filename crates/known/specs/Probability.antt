@@ -6,7 +6,7 @@ use Rattle.curve_probability.specs.Probability.{offline_probability}
 abbrev pub single : ℕ → List ℤ
 single n = pos n ∷ []
 
--- pins at RSNS - X, mu and sigma
+-- piNS at RSNS - X, mu and sigma
 abbrev pub at_difference : ℤ → ℤ → ℕ → ℕ
 at_difference difference mean spread = offline_probability (pos 2000000 +ℤ difference) (pos 2000000) mean spread
 

@@ -1,4 +1,4 @@
--- The effect of pricing a snapshot. An answer is six numbers: RS, RSNS, pis, pins, the on-line and the off-line price.
+-- The effect of pricing a snapshot. An answer is six numbers: RS, RSNS, piS, piNS, the on-line and the off-line price.
 use Rattle.std.specs.Prelude.{ℕ, List, ℤ}
 use Rattle.text_schema.specs.Schema.{value}
 use Rattle.curve_set.specs.CurveValues.{curves_of}

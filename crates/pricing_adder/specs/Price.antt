@@ -27,12 +27,12 @@ value_of_reserve curves h = nat_abs (max_ℤ (pos 0) (curves.voll -ℤ h.lambda)
 unfoldable pub rounded : ℕ → ℕ → ℕ
 rounded v share = (v * share + 1000000000) / 2000000000
 
--- pis of RS
+-- piS of RS
 unfoldable pub shortage_online : CurveSet → Header → Sums → ℕ
 shortage_online curves h s =
     online_probability (online_reserve h s) curves.floor (pair_for curves h).mean (nat_abs (pair_for curves h).spread)
 
--- pins of RSNS
+-- piNS of RSNS
 unfoldable pub shortage_offline : CurveSet → Header → Sums → ℕ
 shortage_offline curves h s =
     offline_probability (total_reserve h s) curves.floor (pair_for curves h).mean (nat_abs (pair_for curves h).spread)
