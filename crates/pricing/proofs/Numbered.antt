@@ -1,14 +1,12 @@
 -- Every refusal of a snapshot has one of the numbers 1 to 9 or 15, at a line of its text or the one after its last.
-use Prim.Native.Nat.{ℕ, ◌+◌, ◌≤◌}
+use Prim.Native.Nat.{ℕ}
 use native.Mathlib.Omega.{arith}
 use mathlib.Core.List.{List}
-use mathlib.Core.Path.{◌≡◌, refl, subst}
-use lib.ListN.{length}
+use mathlib.Core.Path.{subst}
 use Rattle.text_refusal.specs.Bytes.{bytes}
 use Rattle.text_refusal.specs.Refusal.{fault}
 use Rattle.text_refusal.specs.declared.refusal.Fault.{Fault}
 use Rattle.text_refusal.proofs.Refusals.{Listed, fault_listed}
-use Rattle.text_line.specs.Field.{field_at}
 use Rattle.text_line.proofs.FieldTexts.{OfLines, LineNumbered, field_numbered}
 use Rattle.text_id.specs.Id.{id_field}
 use Rattle.text_id.proofs.Ids.{id_numbered}

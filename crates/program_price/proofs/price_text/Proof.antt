@@ -3,7 +3,6 @@ use native.Mathlib.Omega.{arith}
 use borrow.Author.Rules.{rules}
 use mathlib.Core.Path.{ap, ◌∙◌}
 use mathlib.Core.Bool.{true}
-use Rattle.text_refusal.specs.Bytes.{bytes}
 use Rattle.curve_text.specs.CurveText.{read_curves}
 use Rattle.pricing.specs.Pricing.{priced}
 use Rattle.program_price.proofs.EmptyLine.{empty_line_within}

@@ -1,6 +1,5 @@
 -- The lines are those of a schema of six numbers.
 use borrow.Author.Rules.{rules}
-use Rattle.text_refusal.specs.Bytes.{bytes}
 use Rattle.program_price.specs.Program.{price_lines}
 use Rattle.program_price.proofs.print_prices.Statement.{statement}
 use Rattle.program_price.proofs.print_prices.Tie as tie
