@@ -1,12 +1,12 @@
 -- What calls one after another give: the record that the bookings themselves give, its curves, and the prices on these.
 use Prim.Native.Nat.{ℕ, zero, suc}
 use native.Mathlib.Omega.{arith}
-use mathlib.Core.Bool.{Bool, true, false, cond}
-use mathlib.Core.List.{List, [], ◌∷◌}
+use mathlib.Core.Bool.{Bool, true, false}
+use mathlib.Core.List.{List}
 use mathlib.Core.Path.{◌≡◌, refl, sym, ap, ◌∙◌}
 use borrow.Author.Tests.{eq-eqb}
-use lib.Dec.{eqb, leb}
-use lib.IntN.{ℤ, nat_abs}
+use lib.Dec.{eqb}
+use lib.IntN.{ℤ}
 use lib.ListN.{length, drop}
 use Rattle.text_refusal.specs.declared.refusal.Refusal.{Refusal}
 use Rattle.curve_set.specs.CurveValues.{curve_values, curves_of}
@@ -19,7 +19,6 @@ use Rattle.curve_record.specs.declared.Record.{Record}
 use Rattle.curve_settling.specs.Settle.{settled}
 use Rattle.curve_booking.specs.Booking.{booked}
 use Rattle.curve_booking.proofs.Booked.{refused_keeps}
-use Rattle.curve_booking.specs.declared.Booking.{Booking}
 use Rattle.curve.specs.Lists.{booked_all, PlaceLowered, both_refused, both_accepted, ListsLowered}
 use Rattle.curve_record.proofs.RecordGroups.{whole, whole_is, fresh_held}
 use Rattle.curve.proofs.Booked.{booked_none, booked_one, booked_whole}

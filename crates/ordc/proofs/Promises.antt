@@ -1,14 +1,11 @@
 -- The layout of the curve set, and demand 3 over the calls, from what is promised of curve sets, bookings, settling and pricing.
-use Prim.Native.Nat.{ℕ, ◌≤◌}
-use mathlib.Core.Path.{◌≡◌, refl, sym, ap, ◌∙◌}
+use Prim.Native.Nat.{ℕ}
+use mathlib.Core.Path.{◌≡◌, ap, ◌∙◌}
 use mathlib.Core.List.{List}
-use lib.IntN.{ℤ, pos}
-use lib.Signed.{◌≤ℤ◌}
+use lib.IntN.{ℤ}
 use Rattle.integer.proofs.Order.{pos-≤ℤ}
 use Rattle.curve_set.specs.CurveValues.{curves_of}
 use Rattle.text_refusal.specs.declared.answer.Answer.TheVariants as answer
-use Rattle.curve_set.specs.declared.Curves.{Curves}
-use Rattle.curve_set.specs.declared.CurveSet.{CurveSet}
 use Rattle.curve_set.proofs.CurveValues.{set_of_values, values_of_set}
 use Rattle.curve_record.specs.Record.{fresh}
 use Rattle.curve_record.specs.declared.Record.{Record}
@@ -20,11 +17,10 @@ use Rattle.pricing.specs.Promises.{NeitherPriceRises}
 use Rattle.pricing.proofs.Promises.{raised_reserve_never_raises_prices, raised_reserve_never_raises_prices_on_curves, offline_online_value_in_order}
 use Rattle.ordc.specs.Record.{record_of}
 use Rattle.pricing_adder.specs.Price.{pricing_values}
-use Rattle.ordc.specs.Price.{online_price, offline_price}
-use Rattle.ordc.specs.Calls.{HistoryPriced, fresh_values, BookCalls}
+use Rattle.ordc.specs.Calls.{HistoryPriced}
 use Rattle.ordc.specs.Promises.{CurveSetIsReadBack, CurveSetIsWrittenBack, NeitherAnswerRises, RaisedReserveNeverRaisesAnswers, RaisedReserveNeverRaisesAnswersOnCurves, AnswersAreInOrder}
 use Rattle.ordc.specs.declared.reply.Reply.{Reply}
-use Rattle.ordc.proofs.Calls.{book_calls, lists_lowered, fresh_record, Settled, settle_call, PricesLaid, price_call}
+use Rattle.ordc.proofs.Calls.{book_calls, lists_lowered, fresh_record, settle_call, PricesLaid, price_call}
 
 pub curve_set_is_read_back : CurveSetIsReadBack
 curve_set_is_read_back = set_of_values

@@ -4,7 +4,7 @@ use Prim.Native.Nat.{◌+◌, ◌*◌, ◌-◌, ◌≤◌, ◌<◌}
 use native.Mathlib.Omega.{arith}
 use mathlib.Core.List.{◌++◌, append-nil}
 use mathlib.Core.Path.{◌≡◌, refl, sym, ◌∙◌}
-use lib.ListN.{length, take, drop, get_or, length-map, length-set, drop_of_length-le}
+use lib.ListN.{length, take, drop, get_or, length-set, drop_of_length-le}
 use lib.Seq.{take_all}
 use Rattle.curve_record.specs.Record.{no_hours}
 use Rattle.curve_record.proofs.RecordGroups.{group_held}
