@@ -1,7 +1,7 @@
 -- Signed numbers as code holds them. A local holds bits, so an operand reads `to_z w (of_z w x)`, which is x where x fits: `rw (to_z-of_z f)`,
--- of mir.Facts, with f the field `c.fits.x` of a parameter x, `sfits_of c.f.ok` of the result of a call of f (borrow.Author.Rules),
+-- of mir.Facts, with f the field `c.ranges.x` of a parameter x, `sfits_of c.f.type_inv` of the result of a call of f (borrow.Author.Rules),
 -- or a law's proof. A test leaves an equation of its flag, which these turn into a fact; where `if a < 0` was taken:
---     less-taken c.before.args.a (pos 0) c.before.fits.a (sfits-lit tt) c.if1.taken
+--     less_taken c.args.a (pos 0) c.ranges.a (sfits_lit tt) c.if-a-lt0.true
 use mathlib.Core.Path.{◌≡◌, sym, ap, ap₂, ◌∙◌}
 use mathlib.Core.Bool.{true, false}
 use lib.Dec.{T}

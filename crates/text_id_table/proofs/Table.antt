@@ -122,20 +122,20 @@ module _
       new_held =
           record {
             slot = slot;
-            filled = λ k from up_to_lem. fill k (rw long at from) up_to_lem (eqb k slot) refl;
+            filled = λ k from before_i. fill k (rw long at from) before_i (eqb k slot) refl;
             behind = rw long its.behind;
             same = here_is;
           }
         where
           fill : (k : ℕ) → bucket_of starts id ≤ k → k ≤ slot → (b : Bool) → eqb k slot ≡ b → 0 < get_or starts' k 0
-          fill k from up_to_lem true p = rw (eqb-true k slot p, here) (omega arith)
-          fill k from up_to_lem false p = let d = eqb-false k slot p in still k (its.filled k from (omega arith))
+          fill k from before_i true p = rw (eqb-true k slot p, here) (omega arith)
+          fill k from before_i false p = let d = eqb-false k slot p in still k (its.filled k from (omega arith))
 
       old_held : {other : List ℕ} → Held mark bytes starts other → Held mark bytes starts' other
       old_held h =
           record {
             slot = h.slot;
-            filled = λ k from up_to_lem. still k (h.filled k (rw long at from) up_to_lem);
+            filled = λ k from before_i. still k (h.filled k (rw long at from) before_i);
             behind = rw long h.behind;
             same = rw (elsewhere h.slot (apart h.slot (h.filled h.slot h.behind (omega arith)))) h.same;
           }
