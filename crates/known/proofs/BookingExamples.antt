@@ -6,7 +6,6 @@ use lib.IntN.{pos, negsuc}
 use Rattle.integer.specs.Floor.{floor_div}
 use Rattle.integer.specs.Quadratic.{quadratic}
 use Rattle.root.specs.Root.{root_of, root_in, raised}
-use Rattle.text_refusal.specs.declared.answer.Answer.TheVariants as answer
 use Rattle.curve_record.specs.declared.Group.{Group}
 use Rattle.text_refusal.specs.Answer.{refusal}
 use Rattle.curve_record.specs.Record.{no_hours, fresh, group_at, with_group}
