@@ -46,6 +46,7 @@ fn generator_part(g: Generator) -> Sums
     }
 }
 
+#[tactic(auto, unfolding(crate::specs::Part::part_of))]
 fn controllable_part(c: Controllable) -> Sums
     ensures { result ≡ part_of (Resource.Controllable c) }
 {
@@ -58,6 +59,7 @@ fn controllable_part(c: Controllable) -> Sums
     }
 }
 
+#[tactic(auto, using(pricing_resource::proofs::Flags::flag_set, pricing_resource::proofs::Flags::flag_not_set), unfolding(crate::specs::Part::part_of))]
 fn load_part(l: Load) -> Sums
     ensures { result ≡ part_of (Resource.Load l) }
 {
