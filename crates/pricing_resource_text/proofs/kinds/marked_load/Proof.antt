@@ -18,7 +18,7 @@ slice-aggregate-marked-lines-4 : tie.Need-slice_bounds-marked_lines-end-4
 slice-aggregate-marked-lines-4 c = refl
 
 marked-lines-requires : tie.Need-marked_lines-b-requires
-marked-lines-requires c κs = load_few
+marked-lines-requires c κs = record { keys_are = load_few.keys_are; lows_are = refl; highs_are = refl; few = load_few.few }
 
 enum-known-b : tie.Need-enum_known-b
 enum-known-b c = c.in-Refused-1.keys1
