@@ -47,9 +47,8 @@ record-values-requires c κs =
 
 returns : tie.Need-returns-in-Refused
 returns c =
-    let told = c in
-    let called = told in
-    lent_left (answered (c.before.before) told.in-Refused.is) (refusals_are_numbered.booking (history-of (c.before.before)) (text-of (c.before.before))) c.refused.ensures
+    let called = c.before.before in
+    lent_left (answered called c.in-Refused.is) (refusals_are_numbered.booking (history-of called) (text-of called)) c.refused.ensures
 
 returns-2 : tie.Need-returns-in-Accepted
 returns-2 c =

@@ -41,9 +41,8 @@ price-values-requires c κs = tt
 
 returns : tie.Need-returns-in-Refused
 returns c =
-    let told = c in
-    let called = told in
-    lent_left (ap pricing_answer (pricing (c.before.before) told.in-Refused.is)) (refusals_are_numbered.pricing (set (c.before.before)) (text-of (c.before.before))) c.refused.ensures
+    let called = c.before.before in
+    lent_left (ap pricing_answer (pricing called c.in-Refused.is)) (refusals_are_numbered.pricing (set called) (text-of called)) c.refused.ensures
 
 returns-2 : tie.Need-returns-in-Priced
 returns-2 c =

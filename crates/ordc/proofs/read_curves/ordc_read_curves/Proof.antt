@@ -29,9 +29,8 @@ answered c e = sym (ap (λ (curves : Curves). curves.answer) c.read_curves-read.
 
 returns : tie.Need-returns-in-Refused
 returns c =
-    let told = c in
-    let read = told in
-    lent_left (answered (c.before.before) told.in-Refused.is) (refusals_are_numbered.reading read.args.text.now) c.refused.ensures
+    let called = c.before.before in
+    lent_left (answered called c.in-Refused.is) (refusals_are_numbered.reading c.args.text.now) c.refused.ensures
 
 returns-2 : tie.Need-returns-in-Accepted
 returns-2 c =

@@ -50,10 +50,7 @@ same-length-2 c = search rules
 
 returns : tie.Need-returns-in-Refused
 returns c =
-    let told = c in
-    let held = told in
-    let a = (start (c.before.before.before.before.before)).args in
-    called a.text.now a.ids.now a.numbers.now held.read_held-answer.ensures told.in-Refused.is c.refused.ensures
+    called c.args.text.now c.args.ids.now c.args.numbers.now c.read_held-answer.ensures c.in-Refused.is c.refused.ensures
 
 same-length-3 : tie.Need-shape_of-ids-in-Accepted
 same-length-3 c = search rules

@@ -42,9 +42,8 @@ answered c e = sym (ap (λ (curves : Curves). curves.answer) (settling c)) ∙ e
 
 returns : tie.Need-returns-in-Refused
 returns c =
-    let told = c in
-    let s = told in
-    lent_left (answered (c.before.before) told.in-Refused.is) (refusals_are_numbered.settling (record_of s.args.history.now) s.args.voll s.args.floor) c.refused.ensures
+    let called = c.before.before in
+    lent_left (answered called c.in-Refused.is) (refusals_are_numbered.settling (record_of c.args.history.now) c.args.voll c.args.floor) c.refused.ensures
 
 returns-2 : tie.Need-returns-in-Accepted
 returns-2 c =
