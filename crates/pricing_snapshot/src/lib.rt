@@ -39,6 +39,7 @@ fn resources_in(text: &[u8], at: usize, count: usize) -> Resources
 }
 
 // What follows a header that ends at a position.
+#[tactic(auto, using(crate::proofs::Snapshots::tally_suspects, crate::proofs::Snapshots::tally_adds))]
 fn after_header(text: &[u8], header: Header, at: usize) -> Snapshot
     requires { nat_abs header.count ≤ 4096 }
     ensures { result ≡ snapshot_sums (after_lines text.now (after_header text.now header at)) }
@@ -67,6 +68,7 @@ fn after_header(text: &[u8], header: Header, at: usize) -> Snapshot
 }
 
 // A snapshot's text read.
+#[tactic(auto, using(crate::proofs::Snapshots::snapshot_long, crate::proofs::Snapshots::snapshot_header, crate::proofs::Snapshots::count_few, crate::proofs::Snapshots::snapshot_rest))]
 pub fn read_snapshot(text: &[u8]) -> Snapshot
     ensures { result ≡ snapshot_sums (snapshot_in text.now) }
 {

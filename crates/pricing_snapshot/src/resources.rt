@@ -49,6 +49,7 @@ fn plus(sums: Sums, part: Sums) -> Sums
 }
 
 // The first line that a mark turns back, with one resource more after so many lines: a line that was found stays the first.
+#[tactic(auto, using(pricing_resource::proofs::Suspects::place_few))]
 fn suspect_with(suspect: usize, lines: usize, resource: Resource) -> usize
     requires { lines ≤ 36863 }
     ensures { result ≡ suspect_with suspect lines resource }
