@@ -42,11 +42,14 @@ fn print_prices(p: Prices, out: &mut [u8]) -> Written
     write_lines(out, 0, b"rs=rsns=pis=pins=online=offline=", &values)
 }
 
+// A longer input is refused unread.
+const MOST_BYTES: usize = 65536;
+
 // What `price` prints of an input, at the start of a lent buffer; nothing where the buffer is too short.
 pub fn price_text(input: &[u8], out: &mut [u8]) -> Written
     ensures { TextWritten (price_output input.now) out.old 0 out.new result }
 {
-    if 65536 < input.len() {
+    if MOST_BYTES < input.len() {
         return write_refusal(out, Refusal { number: 2, line: 0 }, b"curves");
     }
     let end = empty_line(input);

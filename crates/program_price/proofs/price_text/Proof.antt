@@ -13,11 +13,11 @@ use Rattle.program_price.proofs.price_text.Tie as tie
 write-refusal-requires : tie.Need-write_refusal-requires
 write-refusal-requires c κs = search rules
 
-same_length : tie.Need-shape_of-out-then-input-gt65536
+same_length : tie.Need-shape_of-out-then-input-gt-MOST_BYTES
 same_length c = search rules
 
-returns : tie.Need-returns-then-input-gt65536
-returns c = rw (← too_long _ c.if-input-gt65536.true) c.write_refusal.ensures
+returns : tie.Need-returns-then-input-gt-MOST_BYTES
+returns c = rw (← too_long _ c.if-input-gt-MOST_BYTES.true) c.write_refusal.ensures
 
 empty-line-requires : tie.Need-empty_line-end-requires
 empty-line-requires c κs = search rules
@@ -40,7 +40,7 @@ enum_told c = search rules
 add-part : tie.Need-overflow_add-end
 add-part c =
     let found = c in
-    record { fits = omega (arith, found.empty_line-end.ensures, found.if-input-gt65536.false, empty_line_within true found.args.input.now) }
+    record { fits = omega (arith, found.empty_line-end.ensures, found.if-input-gt-MOST_BYTES.false, empty_line_within true found.args.input.now) }
 
 part-requires-2 : tie.Need-part-requires-in-Accepted
 part-requires-2 c κs = search rules
@@ -69,7 +69,7 @@ returns-2 c =
     let a = w in
     let r = a in
     let took = r.read_curves-curves.ensures ∙ ap read_curves r.part.ensures in
-    rw (← curves_refused _ _ r.if-input-gt65536.false r.empty_line-end.ensures _ took a.in-Refused.is) w.write_refusal-in-Refused.ensures
+    rw (← curves_refused _ _ r.if-input-gt-MOST_BYTES.false r.empty_line-end.ensures _ took a.in-Refused.is) w.write_refusal-in-Refused.ensures
 
 same-length-3 : tie.Need-shape_of-out-in-Refused-p
 same-length-3 c = search rules
@@ -83,7 +83,7 @@ returns-3 c =
     let r = t in
     let took = r.read_curves-curves.ensures ∙ ap read_curves r.part.ensures in
     let prices = q.price-p.ensures ∙ ap (priced _) t.part-in-Accepted.ensures in
-    rw (← snapshot_refused _ _ r.if-input-gt65536.false r.empty_line-end.ensures _ took t.in-Accepted.is _ prices x.in-Refused-p.is) w.write_refusal-in-Refused-p.ensures
+    rw (← snapshot_refused _ _ r.if-input-gt-MOST_BYTES.false r.empty_line-end.ensures _ took t.in-Accepted.is _ prices x.in-Refused-p.is) w.write_refusal-in-Refused-p.ensures
 
 same-length-4 : tie.Need-shape_of-out-in-Priced
 same-length-4 c = search rules
@@ -97,7 +97,7 @@ returns-4 c =
     let r = t in
     let took = r.read_curves-curves.ensures ∙ ap read_curves r.part.ensures in
     let prices = q.price-p.ensures ∙ ap (priced _) t.part-in-Accepted.ensures in
-    rw (← snapshot_priced _ _ r.if-input-gt65536.false r.empty_line-end.ensures _ took t.in-Accepted.is _ prices x.in-Priced.is) w.print_prices.ensures
+    rw (← snapshot_priced _ _ r.if-input-gt-MOST_BYTES.false r.empty_line-end.ensures _ took t.in-Accepted.is _ prices x.in-Priced.is) w.print_prices.ensures
 
 pub price_text_spec : {M : Type 1} → statement M
 price_text_spec =

@@ -47,8 +47,8 @@ record-values-requires c κs =
 
 returns : tie.Need-returns-in-Refused
 returns c =
-    let called = c.before.before in
-    lent_left (answered called c.in-Refused.is) (refusals_are_numbered.booking (history-of called) (text-of called)) c.refused.ensures
+    let told = c.book-booking.ensures ∙ ap (λ (history : Record). booked history c.args.text.now) c.record_of.ensures in
+    lent_left (sym (ap (λ (b : Booking). b.answer) told) ∙ c.in-Refused.is) (refusals_are_numbered.booking (record_of c.args.history.now) c.args.text.now) c.refused.ensures
 
 returns-2 : tie.Need-returns-in-Accepted
 returns-2 c =

@@ -41,8 +41,8 @@ price-values-requires c κs = tt
 
 returns : tie.Need-returns-in-Refused
 returns c =
-    let called = c.before.before in
-    lent_left (ap pricing_answer (pricing called c.in-Refused.is)) (refusals_are_numbered.pricing (set called) (text-of called)) c.refused.ensures
+    let told = c.price-pricing.ensures ∙ ap (λ (curves : CurveSet). priced curves c.args.text.now) c.curves_of.ensures in
+    lent_left (ap pricing_answer (sym told ∙ c.in-Refused.is)) (refusals_are_numbered.pricing (curves_of c.args.curves.now) c.args.text.now) c.refused.ensures
 
 returns-2 : tie.Need-returns-in-Priced
 returns-2 c =

@@ -29,8 +29,7 @@ answered c e = sym (ap (λ (curves : Curves). curves.answer) c.read_curves-read.
 
 returns : tie.Need-returns-in-Refused
 returns c =
-    let called = c.before.before in
-    lent_left (answered called c.in-Refused.is) (refusals_are_numbered.reading c.args.text.now) c.refused.ensures
+    lent_left (sym (ap (λ (curves : Curves). curves.answer) c.read_curves-read.ensures) ∙ c.in-Refused.is) (refusals_are_numbered.reading c.args.text.now) c.refused.ensures
 
 returns-2 : tie.Need-returns-in-Accepted
 returns-2 c =

@@ -1,6 +1,8 @@
 -- The calls chain to the settling, whose answer is taken apart; the curve set is laid where it is accepted.
 use mathlib.Core.Path.{◌≡◌, ap, sym, ◌∙◌}
+use lib.IntN.{ℤ}
 use mir.Facts.{to_z-of_z}
+use Rattle.curve_record.specs.declared.Record.{Record}
 use Rattle.curve_set.specs.CurveValues.{curve_values}
 use Rattle.text_refusal.specs.declared.answer.Answer.{Answer}
 use Rattle.curve_set.specs.declared.Curves.{Curves}
@@ -29,6 +31,12 @@ enum_told c = c.in-Accepted-1.keys2
 values-of-requires : tie.Need-values_of-requires
 values-of-requires c κs = tt
 
+-- the settling of numbers that are the caller's
+settled_as :
+    {history history' : Record} {voll voll' floor floor' : ℤ} {curves : Curves} → curves ≡ settled history voll floor → history ≡ history' → voll ≡ voll' → floor ≡ floor' →
+    curves ≡ settled history' voll' floor'
+settled_as given p q r = rw (← p, ← q, ← r) given
+
 abbrev given : tie.After-settle-settled → Curves
 given c = let s = c in settled (record_of s.args.history.now) s.args.voll s.args.floor
 
@@ -42,8 +50,8 @@ answered c e = sym (ap (λ (curves : Curves). curves.answer) (settling c)) ∙ e
 
 returns : tie.Need-returns-in-Refused
 returns c =
-    let called = c.before.before in
-    lent_left (answered called c.in-Refused.is) (refusals_are_numbered.settling (record_of c.args.history.now) c.args.voll c.args.floor) c.refused.ensures
+    let told = settled_as c.settle-settled.ensures c.record_of.ensures (to_z-of_z c.ranges.voll) (to_z-of_z c.ranges.floor) in
+    lent_left (sym (ap (λ (curves : Curves). curves.answer) told) ∙ c.in-Refused.is) (refusals_are_numbered.settling (record_of c.args.history.now) c.args.voll c.args.floor) c.refused.ensures
 
 returns-2 : tie.Need-returns-in-Accepted
 returns-2 c =
