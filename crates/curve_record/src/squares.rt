@@ -17,6 +17,7 @@ pub(crate) fn squares_around(g: Group, x: i64) -> i64
 }
 
 // V of a group with x for its mean; 0 where the group's numbers or x are too large for any record that is possible.
+#[tactic(auto, unfolding(crate::specs::Squares::squares_near))]
 pub fn squares_near(g: Group, x: i64) -> i64
     ensures { result ≡ squares_near g x }
 {

@@ -104,6 +104,7 @@ fn pairs_in_range(curves: CurveSet) -> bool
 }
 
 // Whether each value of a curve set is in its range.
+#[tactic(auto, unfolding(crate::specs::Curves::curves_in_range))]
 pub fn curves_in_range(curves: CurveSet) -> bool
     ensures { result ≡ curves_in_range curves }
 {
