@@ -25,6 +25,9 @@ const WIDTHS: [usize; 7] = [1, 9, 8, 10, 10, 10, 10];
 // The distances above X at which a row has piNS, in kW.
 const ABOVE: [u32; 4] = [1000000, 2000000, 3000000, 4000000];
 
+// How long a page is: 24 rows of 72 bytes.
+const PAGE_BYTES: usize = 1728;
+
 // The numbers of a row: block, mean, spread and four probabilities. Where X lies does not show, so it is 0 here.
 fn row_values(group: usize, pair: Pair) -> [i64; 7]
     requires { pair_in_range pair ≡ true }
@@ -79,7 +82,7 @@ pub fn write_page(curves: CurveSet, buffer: &mut [u8]) -> Answer
     if !curves_in_range(curves) {
         return Answer::Refused(Refusal { number: 1, line: 0 });
     }
-    if buffer.len() < 1728 {
+    if buffer.len() < PAGE_BYTES {
         return Answer::Refused(Refusal {
             number: 14,
             line: 0,

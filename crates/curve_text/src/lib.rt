@@ -56,11 +56,14 @@ fn curve_lines(text: &[u8], values: &mut [i64; 50]) -> Lines
     end_at(text, next)
 }
 
+// A longer text is refused unread.
+const MOST_BYTES: usize = 4096;
+
 // A curve text read.
 pub fn read_curves(text: &[u8]) -> Curves
     ensures { result ≡ read_curves text.now }
 {
-    if 4096 < text.len() {
+    if MOST_BYTES < text.len() {
         return refused_curves(2, 0);
     }
     let mut values = [0i64; 50];

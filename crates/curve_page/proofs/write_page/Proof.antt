@@ -22,16 +22,16 @@ returns c =
 possible : (c : tie.Else-not-curves_in_range) → curves_in_range c.args.curves ≡ true
 possible c = sym c.curves_in_range.ensures ∙ not-false c.curves_in_range.result c.if-not-curves_in_range.false-raw
 
-returns-2 : tie.Need-returns-then-buffer-lt1728
+returns-2 : tie.Need-returns-then-buffer-lt-PAGE_BYTES
 returns-2 c =
     let s = c in
     record {
-      ends = sym (short_refused s.args.curves s.args.buffer.now (possible (c.before)) c.if-buffer-lt1728.true);
-      bytes = sym (short_stays s.args.curves s.args.buffer.now (possible (c.before)) c.if-buffer-lt1728.true);
+      ends = sym (short_refused s.args.curves s.args.buffer.now (possible (c.before)) c.if-buffer-lt-PAGE_BYTES.true);
+      bytes = sym (short_stays s.args.curves s.args.buffer.now (possible (c.before)) c.if-buffer-lt-PAGE_BYTES.true);
     }
 
 put-rows-requires : tie.Need-put_rows-requires
-put-rows-requires c κs = (possible (c.before.before), c.if-buffer-lt1728.false)
+put-rows-requires c κs = (possible (c.before.before), c.if-buffer-lt-PAGE_BYTES.false)
 
 same_length : tie.Need-shape_of-buffer
 same_length c = c.put_rows.auto.buffer
@@ -42,8 +42,8 @@ returns-3 c =
     let tested = p in
     let s = tested in
     record {
-      ends = sym (page_written s.args.curves s.args.buffer.now (possible (c.before.before.before.before.before)) tested.if-buffer-lt1728.false);
-      bytes = p.put_rows.ensures ∙ sym (page_laid s.args.curves s.args.buffer.now (possible (c.before.before.before.before.before)) tested.if-buffer-lt1728.false);
+      ends = sym (page_written s.args.curves s.args.buffer.now (possible (c.before.before.before.before.before)) tested.if-buffer-lt-PAGE_BYTES.false);
+      bytes = p.put_rows.ensures ∙ sym (page_laid s.args.curves s.args.buffer.now (possible (c.before.before.before.before.before)) tested.if-buffer-lt-PAGE_BYTES.false);
     }
 
 pub write_page_spec : {M : Type 1} → statement M

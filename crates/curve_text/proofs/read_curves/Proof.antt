@@ -9,11 +9,11 @@ use Rattle.curve_text.proofs.read_curves.Tie as tie
 refused-curves-requires : tie.Need-refused_curves-requires
 refused-curves-requires c κs = tt
 
-returns : tie.Need-returns-then-text-gt4096
+returns : tie.Need-returns-then-text-gt-MOST_BYTES
 unfolding read_curves
 returns c =
     let text = c.args.text.now in
-    rw (lt-ltb 4096 (length text) c.if-text-gt4096.true) c.refused_curves.ensures
+    rw (lt-ltb 4096 (length text) c.if-text-gt-MOST_BYTES.true) c.refused_curves.ensures
 
 curve-lines-requires : tie.Need-curve_lines-requires
 curve-lines-requires c κs = tt
@@ -37,12 +37,12 @@ returns-2 : tie.Need-returns-in-Refused
 returns-2 c =
     let known = c in
     let read = known in
-    text_refused read.if-text-gt4096.false read.curve_lines.ensures known.in-Refused.is c.refusal_of-found.ensures c.refused_curves-in-Refused.ensures
+    text_refused read.if-text-gt-MOST_BYTES.false read.curve_lines.ensures known.in-Refused.is c.refusal_of-found.ensures c.refused_curves-in-Refused.ensures
 
 returns-3 : tie.Need-returns-in-Read
 returns-3 c =
     let read = c in
-    text_accepted read.if-text-gt4096.false read.curve_lines.ensures c.in-Read.is c.curves_of.ensures
+    text_accepted read.if-text-gt-MOST_BYTES.false read.curve_lines.ensures c.in-Read.is c.curves_of.ensures
 
 pub read_curves_spec : {M : Type 1} → statement M
 read_curves_spec =
