@@ -28,10 +28,11 @@ use Rattle.curve_set.specs.declared.Pair.{Pair}
 use Rattle.curve_set.specs.declared.CurveSet.{CurveSet}
 use Rattle.curve_set.proofs.CurveValues.{no_pair}
 use Rattle.curve_set.proofs.InRange.{pair_range, lies_low, pair_small}
-use Rattle.curve_probability.specs.Probability.{offline_probability, offline_probabilities}
-use Rattle.curve_probability.proofs.ProbabilityOrder.{offline_le, offline_above, offline_many}
+use Rattle.curve_probability.specs.Probability.{offline_probabilities}
+use Rattle.curve_probability.proofs.ProbabilityOrder.{offline_above, offline_many}
 use Rattle.curve_page.specs.Page.{season_name, season_cell, block_cell, mean_cell, spread_cell, probability_above, probability_cell, row_end, space, page_row, pair_of_group, page_rows, page_of}
 use Rattle.curve_page.specs.internal.RowValues.{row_widths, row_values}
+pub use Rattle.curve_page.proofs.Above.{probability_is, probability_bound}
 
 -- ---- each cell fits its width
 
@@ -66,20 +67,12 @@ module _ (pair : Pair) (e : pair_in_range pair ≡ true) where
       from_one : (z : ℤ) → pos 1 ≤ℤ z → pos 0 ≤ℤ z
       from_one z = rw (view z) (simp to_ℕ (omega arith))
 
-pub probability_is : (floor : ℤ) (pair : Pair) (above : ℕ) → probability_above floor pair above ≡ offline_probability (floor +ℤ pos above) floor pair.mean (nat_abs pair.spread)
-unfolding probability_above
-probability_is floor pair above = refl
-
 -- the four of a row, as they are computed
 pub four_probabilities : (pair : Pair) →
     offline_probabilities (1000000 ∷ 2000000 ∷ 3000000 ∷ 4000000 ∷ []) pair.mean (nat_abs pair.spread) ≡
     probability_above (pos 0) pair 1000000 ∷ probability_above (pos 0) pair 2000000 ∷ probability_above (pos 0) pair 3000000 ∷ probability_above (pos 0) pair 4000000 ∷ []
 unfolding probability_above
 four_probabilities pair = offline_many (1000000 ∷ 2000000 ∷ 3000000 ∷ 4000000 ∷ []) (pos 0) pair.mean (nat_abs pair.spread)
-
-pub probability_bound : (floor : ℤ) (pair : Pair) (above : ℕ) → probability_above floor pair above ≤ 1000000000
-unfolding probability_above
-probability_bound floor pair above = offline_le (floor +ℤ pos above) floor pair.mean (nat_abs pair.spread)
 
 pub probability_fits : (floor : ℤ) (pair : Pair) (above : ℕ) → length (written_number (pos (probability_above floor pair above))) ≤ 10
 probability_fits floor pair above =
