@@ -30,6 +30,7 @@ fn pair_of(g: Group) -> Pair
 }
 
 // The curves of a record's groups, or the first faulty group: 12 for fewer than 2 hours, then 13 for a spread of 0.
+#[tactic(auto, using(crate::proofs::Turn::too_few))]
 fn settle_groups(history: Record, voll: i64, floor: i64) -> Curves
     requires { record_possible history ≡ true }
     ensures { result ≡ settled_curves history voll floor }
