@@ -1,0 +1,29 @@
+use Rattle.std.proofs.Common.{◌≡◌, true, false, rules, arith, sym, ◌∙◌, to_z-of_z}
+use mir.Syntax.{w64}
+use mir.Val.{SFits}
+use Rattle.curve_record.specs.Possible.{record_possible}
+use Rattle.curve_booking.specs.Booking.{booked}
+use Rattle.curve_booking.proofs.Booked.{answer_refused, answer_error, error_group_below}
+use Rattle.curve_booking.proofs.book.Goals as goal
+
+pub returns-then-not-record_possible : goal.returns-then-not-record_possible
+unfolding booked
+returns-then-not-record_possible c =
+    let impossible : record_possible c.args.history ≡ false = search rules in
+    rw impossible c.kept.ensures
+
+pub book_error-requires-clause-group_bound : goal.book_error-requires-clause-group_bound
+book_error-requires-clause-group_bound c =
+    omega (arith, error_group_below c.args.text.now c.in-Error.group c.in-Error.error (sym c.read_hour-h.ensures ∙ c.in-Error.is))
+
+pub returns-in-Refused : goal.returns-in-Refused
+returns-in-Refused c =
+    let possible : record_possible c.args.history ≡ true = search rules in
+    sym (answer_refused c.args.history c.args.text.now c.in-Refused.found possible (sym c.read_hour-h.ensures ∙ c.in-Refused.is))
+
+pub returns-in-Error : goal.returns-in-Error
+returns-in-Error c =
+    let possible : record_possible c.args.history ≡ true = search rules in
+    let fits : SFits w64 c.in-Error.error = search rules in
+    (rw (to_z-of_z fits) at c.book_error.ensures)
+    ∙ sym (answer_error c.args.history c.args.text.now c.in-Error.group c.in-Error.error possible (sym c.read_hour-h.ensures ∙ c.in-Error.is))
