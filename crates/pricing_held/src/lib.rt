@@ -19,6 +19,7 @@ mod suspect;
 mod values;
 
 // How many resources are held: as many as there are whole rows of 32 bytes and of 9 numbers.
+#[tactic(auto, unfolding(crate::specs::Rows::held_count))]
 pub fn held_count(ids: &[u8], numbers: &[i64]) -> usize
     ensures { result ≡ held_count ids.now numbers.now }
 {

@@ -26,6 +26,7 @@ pub(crate) fn row_lines(numbers: &[i64], i: usize) -> usize
 }
 
 // A row: its first refused line, the row's first line being `line`. An id that is new is put into the table.
+#[tactic(auto, using(text_id_table::proofs::Table::slot_within, crate::proofs::RowChecks::checked_ill_formed, crate::proofs::RowChecks::checked_repeated, crate::proofs::RowChecks::checked_new))]
 fn check_row(ids: &[u8], numbers: &[i64], i: usize, line: usize, starts: &mut [usize]) -> Answer
     requires { RowRoom ids.now numbers.now i line starts.old }
     ensures { RowChecked (row_at ids.now numbers.now i) line ids.now starts.old starts.new result }

@@ -34,6 +34,7 @@ fn flag_of(z: i64) -> i32
 
 // Which line of a row, the id's being 1, holds its first marked number where that turns the snapshot back; 0 where it does not. The verdict hangs on kind, status
 // and flag alone, so the other numbers are left out.
+#[tactic(auto, using(crate::proofs::Suspects::unmarked_place, crate::proofs::Suspects::generator_row, crate::proofs::Suspects::controllable_row, crate::proofs::Suspects::load_row))]
 fn row_place(values: &[i64]) -> usize
     requires { 9 ≤ length values.now }
     ensures { result ≡ suspect_place (resource_in values.now) }

@@ -45,6 +45,7 @@ fn check_flag(z: i64, marked: bool, line: usize) -> Answer
 }
 
 // The numbers of a generator after its kind: its status, then five numbers and a flag, whose mark is the sixth.
+#[tactic(auto, using(crate::proofs::RowLines::status_refused, crate::proofs::RowLines::generator_refused, crate::proofs::RowLines::generator_checked))]
 fn check_generator(values: &[i64], line: usize) -> Answer
     requires { (9 ≤ length values.now) × (line ≤ 90000) }
     ensures { result ≡ first_refused line (lines_of_kind 0 (row_of values.now)) }
@@ -83,6 +84,7 @@ fn check_load(values: &[i64], kind: usize, line: usize) -> Answer
 }
 
 // The numbers of a row, the kind's line first.
+#[tactic(auto, using(crate::proofs::RowLines::kind_refused, crate::proofs::RowLines::kind_passed, crate::proofs::RowLines::of_generator))]
 pub(crate) fn check_values(values: &[i64], line: usize) -> Answer
     requires { (9 ≤ length values.now) × (line ≤ 80000) }
     ensures { result ≡ first_refused line (checked_line kind_field (place_of (value values.now 0)) ∷ lines_of_kind (place_of (value values.now 0)) (row_of values.now)) }
