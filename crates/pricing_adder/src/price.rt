@@ -92,6 +92,7 @@ fn both_prices(curves: CurveSet, header: Header, sums: Sums) -> Prices
 }
 
 // The prices of sums and header numbers, which may be any: curves and sums are refused as impossible by 1, a header number out of its range by 7 at its line.
+#[tactic(auto, unfolding(crate::specs::Price::sums_priced))]
 pub fn price_sums(curves: CurveSet, header: Header, sums: Sums) -> Pricing
     ensures { result ≡ sums_priced curves header sums }
 {
