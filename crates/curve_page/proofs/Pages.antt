@@ -7,7 +7,7 @@ use borrow.Author.Tests.{le-leb}
 use mathlib.Core.Bool.{true}
 use mathlib.Core.List.{List, [], ◌∷◌, ◌++◌, append_assoc, append-nil}
 use mathlib.Core.Path.{◌≡◌, refl, sym, ap, ◌∙◌}
-use lib.IntN.{ℤ, pos, nat_abs, ◌+ℤ◌}
+use lib.IntN.{ℤ, pos, nat_abs}
 use lib.Signed.{◌≤ℤ◌}
 use lib.ListN.{length, take, drop, get_or, length-append}
 use lib.Seq.{take_all, take_at, drop-append-add}
