@@ -1,5 +1,4 @@
-// Refusals: within a text, and as a caller sees them; the answer of an operation that can be refused.
+// Refusals: within a text, and as a caller sees them.
 #![tactic(auto)]
 
-pub mod answer;
 pub mod refusal;
