@@ -10,6 +10,7 @@ use lib.Dec.{eqb}
 use lib.ListN.{length, drop, get_or, drop_of_length-le}
 use lib.Seq.{drop-cons}
 use borrow.Author.Tests.{eq-eqb, ne_eqb, eqb-true}
+use Rattle.std.specs.Prelude.{Option, Some, None}
 use Rattle.text_line.specs.Judged.{good}
 use Rattle.text_line.specs.Line.{OneLine, value_at, value_fault}
 use Rattle.text_line.specs.Field.{got, refused, next_at, field_at}
@@ -17,8 +18,6 @@ use Rattle.text_line.proofs.Fields.{NoneEmpty, field_got, field_within, field_re
 use Rattle.text_line.proofs.FieldTexts.{JudgedNumbered, FieldNumbered}
 use Rattle.text_line.proofs.LineBytes.{one_line_none, EachOneLine}
 use Rattle.text_word.specs.Word.{same_bytes, word_among, word_in, judged_word, written_word, word_field}
-use Rattle.text_word.specs.declared.Word.{Word}
-use Rattle.text_word.specs.declared.Word.TheVariants as word
 
 -- ---- the same bytes
 
@@ -76,7 +75,7 @@ module _ {value word : List ℕ} {i : ℕ} (from : WordFrom value word i) where
 -- ---- the words of a list, one after the other
 
 module _ (index : ℕ) (known : List ℕ) (words : List (List ℕ)) (value : List ℕ) {test : Bool} (is : test ≡ same_bytes value known) where
-  pub word_hit : test ≡ true → word_among index (known ∷ words) value ≡ word.Index index
+  pub word_hit : test ≡ true → word_among index (known ∷ words) value ≡ Some index
   unfolding word_among
   word_hit told = rw (sym is ∙ told)
 
@@ -84,14 +83,14 @@ module _ (index : ℕ) (known : List ℕ) (words : List (List ℕ)) (value : Lis
   unfolding word_among
   word_miss told = rw (sym is ∙ told)
 
-pub word_none : (index : ℕ) (value : List ℕ) → word_among index [] value ≡ word.Unknown
+pub word_none : (index : ℕ) (value : List ℕ) → word_among index [] value ≡ None
 unfolding word_among
 word_none index value = refl
 
 -- a list that is written out: the tests one after the other, computed
-abbrev pub computed_word : ℕ → List (List ℕ) → List ℕ → Word
-computed_word index [] value = word.Unknown
-computed_word index (known ∷ words) value = cond (same_bytes value known) (word.Index index) (computed_word (suc index) words value)
+abbrev pub computed_word : ℕ → List (List ℕ) → List ℕ → Option ℕ
+computed_word index [] value = None
+computed_word index (known ∷ words) value = cond (same_bytes value known) (Some index) (computed_word (suc index) words value)
 
 among_computed : (index : ℕ) (words : List (List ℕ)) (value : List ℕ) → word_among index words value ≡ computed_word index words value
 unfolding word_among
@@ -107,23 +106,23 @@ none_empty [] = true
 none_empty ([] ∷ words) = false
 none_empty ((byte ∷ known) ∷ words) = none_empty words
 
-pub empty_unknown : (index : ℕ) (words : List (List ℕ)) → none_empty words ≡ true → word_among index words [] ≡ word.Unknown
+pub empty_unknown : (index : ℕ) (words : List (List ℕ)) → none_empty words ≡ true → word_among index words [] ≡ None
 unfolding word_among same_bytes
 empty_unknown index [] e = refl
 empty_unknown index ([] ∷ words) e = cc
 empty_unknown index ((byte ∷ known) ∷ words) e = empty_unknown (suc index) words e
 
 -- the index of a word is below the number of words
-among_below : (from : ℕ) (words : List (List ℕ)) (value : List ℕ) {index : ℕ} → word_among from words value ≡ word.Index index → index < from + length words
+among_below : (from : ℕ) (words : List (List ℕ)) (value : List ℕ) {index : ℕ} → word_among from words value ≡ Some index → index < from + length words
 unfolding word_among
 among_below from [] value e = let z : ◌≡◌ {A = ℕ} 0 1 = cc in absurd (omega arith)
 among_below from (known ∷ words) value {index} e = go (same_bytes value known) e (among_below (suc from) words value)
   where
-    go : (t : Bool) → cond t (word.Index from) (word_among (suc from) words value) ≡ word.Index index → (word_among (suc from) words value ≡ word.Index index → index < suc from + length words) → index < from + suc (length words)
+    go : (t : Bool) → cond t (Some from) (word_among (suc from) words value) ≡ Some index → (word_among (suc from) words value ≡ Some index → index < suc from + length words) → index < from + suc (length words)
     go true e again = let same : from ≡ index = cc in omega arith
     go false e again = omega (arith, again e)
 
-pub word_below : (words : List (List ℕ)) (value : List ℕ) {index : ℕ} → word_in words value ≡ word.Index index → index < length words
+pub word_below : (words : List (List ℕ)) (value : List ℕ) {index : ℕ} → word_in words value ≡ Some index → index < length words
 word_below words value e = omega (arith, among_below 0 words value e)
 
 -- ---- a line that holds a word
@@ -133,48 +132,48 @@ module _ (key : List ℕ) (words : List (List ℕ)) (some_bytes : none_empty wor
   word_none_empty index e = let f = rw (empty_unknown 0 words some_bytes) at e in let z : ◌≡◌ {A = ℕ} 0 1 = cc in omega arith
 
   -- what the reader of words said of the line's value, and what the line gives
-  module _ (text : List ℕ) (at : ℕ) {value : List ℕ} {w : Word} (same : value ≡ value_at key text at) (is : w ≡ word_in words value) where
-    judged_is : {said : Word} → w ≡ said → (word_field key words).read (value_at key text at) ≡ judged_word said
+  module _ (text : List ℕ) (at : ℕ) {value : List ℕ} {w : Option ℕ} (same : value ≡ value_at key text at) (is : w ≡ word_in words value) where
+    judged_is : {said : Option ℕ} → w ≡ said → (word_field key words).read (value_at key text at) ≡ judged_word said
     judged_is told = ap judged_word (ap (word_in words) (sym same) ∙ sym is ∙ told)
 
-    pub word_got : {index : ℕ} → w ≡ word.Index index → got index (next_at at key value) ≡ field_at (word_field key words) text at
+    pub word_got : {index : ℕ} → w ≡ Some index → got index (next_at at key value) ≡ field_at (word_field key words) text at
     word_got told = rw same (field_got (word_field key words) text at word_none_empty (judged_is told))
 
-    pub word_within : {index : ℕ} → w ≡ word.Index index → next_at at key value ≤ length text
+    pub word_within : {index : ℕ} → w ≡ Some index → next_at at key value ≤ length text
     word_within told = rw same (field_within (word_field key words) text at word_none_empty (judged_is told)).0
 
-    pub word_refused : w ≡ word.Unknown → refused (value_fault key text at 6) ≡ field_at (word_field key words) text at
+    pub word_refused : w ≡ None → refused (value_fault key text at 6) ≡ field_at (word_field key words) text at
     word_refused told = field_refused (word_field key words) text at (judged_is told)
 
 pub word_numbered : (key : List ℕ) (words : List (List ℕ)) → FieldNumbered (word_field key words)
 word_numbered key words value = go (word_in words value)
   where
-    go : (found : Word) → JudgedNumbered (judged_word found)
-    go (word.Index index) = tt
-    go word.Unknown = (omega arith, omega arith)
+    go : (found : Option ℕ) → JudgedNumbered (judged_word found)
+    go (Some index) = tt
+    go None = (omega arith, omega arith)
 
 -- ---- a word as it is written
 
 -- the word found among words is written as the value
-among_written : (words : List (List ℕ)) (base index : ℕ) (value : List ℕ) → word_among base words value ≡ word.Index index → (k : ℕ) × (base + k ≡ index) × (written_word words k ≡ value)
+among_written : (words : List (List ℕ)) (base index : ℕ) (value : List ℕ) → word_among base words value ≡ Some index → (k : ℕ) × (base + k ≡ index) × (written_word words k ≡ value)
 unfolding word_among written_word
 among_written [] base index value e = let z : ◌≡◌ {A = ℕ} 0 1 = cc in absurd (omega arith)
 among_written (known ∷ words) base index value e = go (same_bytes value known) refl (among_written words (suc base) index value) e
   where
-    go : (b : Bool) → same_bytes value known ≡ b → (word_among (suc base) words value ≡ word.Index index → (k : ℕ) × (suc base + k ≡ index) × (written_word words k ≡ value)) → cond b (word.Index base) (word_among (suc base) words value) ≡ word.Index index → (k : ℕ) × (base + k ≡ index) × (written_word (known ∷ words) k ≡ value)
+    go : (b : Bool) → same_bytes value known ≡ b → (word_among (suc base) words value ≡ Some index → (k : ℕ) × (suc base + k ≡ index) × (written_word words k ≡ value)) → cond b (Some base) (word_among (suc base) words value) ≡ Some index → (k : ℕ) × (base + k ≡ index) × (written_word (known ∷ words) k ≡ value)
     go true h again e = let same : base ≡ index = cc in (0, omega arith, sym (same_is value known h))
     go false h again e = let found = again e in let fact : suc base + found.0 ≡ index = found.1 in (suc found.0, omega arith, found.2)
 
 pub word_written : (key : List ℕ) (words : List (List ℕ)) (bytes : List ℕ) (index : ℕ) → (word_field key words).read bytes ≡ good index → written_word words index ≡ bytes
 word_written key words bytes index e = go (word_in words bytes) refl e
   where
-    go : (read : Word) → word_in words bytes ≡ read → judged_word read ≡ good index → written_word words index ≡ bytes
-    go (word.Index found) h e =
+    go : (read : Option ℕ) → word_in words bytes ≡ read → judged_word read ≡ good index → written_word words index ≡ bytes
+    go (Some found) h e =
         let same : found ≡ index = cc in
         let at = among_written words 0 found bytes h in
         let here : at.0 ≡ index = (let fact : 0 + at.0 ≡ found = at.1 in omega arith) in
         rw (← here) at.2
-    go word.Unknown h e = cc
+    go None h e = cc
 
 -- past the last word no bytes are written
 pub word_past : (words : List (List ℕ)) (index : ℕ) → length words ≤ index → written_word words index ≡ []
@@ -246,7 +245,7 @@ apart_other known (other ∷ words) e (suc index) h = apart_other known words (g
     go true e = cc
     go false e = e
 
-among_itself : (words : List (List ℕ)) (base : ℕ) → distinct words ≡ true → (index : ℕ) → index < length words → word_among base words (written_word words index) ≡ word.Index (base + index)
+among_itself : (words : List (List ℕ)) (base : ℕ) → distinct words ≡ true → (index : ℕ) → index < length words → word_among base words (written_word words index) ≡ Some (base + index)
 unfolding word_among written_word
 among_itself [] base e index h = absurd (omega arith)
 among_itself (known ∷ words) base e zero h = rw (same_self known, add-zero base)
@@ -259,5 +258,5 @@ among_itself (known ∷ words) base e (suc index) h =
     split true e = (refl, e)
     split false e = let z : ◌≡◌ {A = ℕ} 0 1 = cc in absurd (omega arith)
 
-pub word_itself : (words : List (List ℕ)) → distinct words ≡ true → (index : ℕ) → index < length words → word_in words (written_word words index) ≡ word.Index index
-word_itself words e index h = among_itself words 0 e index h ∙ ap word.Index (zero-add index)
+pub word_itself : (words : List (List ℕ)) → distinct words ≡ true → (index : ℕ) → index < length words → word_in words (written_word words index) ≡ Some index
+word_itself words e index h = among_itself words 0 e index h ∙ ap Some (zero-add index)

@@ -4,13 +4,6 @@
 ghost use Rattle.std.specs.Prelude.{◌≡◌};
 ghost use Rattle.text_word.specs.Word.{same_bytes};
 
-// Which word of a list a value is, counted from 0.
-#[derive(Clone, Copy)]
-pub enum Word {
-    Index(usize),
-    Unknown,
-}
-
 // Whether a value is a word: the same bytes.
 pub fn is_word(value: &[u8], word: &[u8]) -> bool
     ensures { result ≡ same_bytes value.now word.now }
