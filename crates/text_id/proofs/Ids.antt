@@ -2,7 +2,7 @@
 use Prim.Native.Nat.{ℕ, ◌+◌, ◌≤◌, ◌<◌}
 use native.Mathlib.Numerals.{add-one}
 use native.Mathlib.Omega.{arith}
-use mathlib.Core.Bool.{Bool, true, false, ◌&&◌, cond}
+use mathlib.Core.Bool.{Bool, true, false, ◌&&◌}
 use mathlib.Core.List.{List, [], ◌∷◌}
 use mathlib.Core.Path.{◌≡◌, refl, ap, sym, ◌∙◌}
 use lib.ListN.{length, drop, get_or, drop_of_length-le}
@@ -16,16 +16,14 @@ use Rattle.text_line.proofs.Fields.{NoneEmpty, field_got, field_within, field_re
 use Rattle.text_line.proofs.LineBytes.{one_line_none, one_line_byte}
 use Rattle.text_line.proofs.FieldTexts.{JudgedNumbered, FieldNumbered}
 use Rattle.text_line.specs.Judged.{good}
-use Rattle.text_id.specs.Id.{is_id_byte, all_id_bytes, is_id, id_in, judged_id, id_field}
-use Rattle.text_id.specs.declared.Id.{Id}
-use Rattle.text_id.specs.declared.Id.TheVariants as id
+use Rattle.text_id.specs.Id.{is_id_byte, all_id_bytes, is_id, judged_id, id_field}
 
 module _ (value : List ℕ) where
-  pub id_none : length value ≡ 0 → id.Malformed ≡ id_in value
+  pub id_none : length value ≡ 0 → false ≡ is_id value
   unfolding is_id
   id_none h = rw (le-ltb 0 (length value) (omega arith))
 
-  pub id_long : 16 < length value → id.Malformed ≡ id_in value
+  pub id_long : 16 < length value → false ≡ is_id value
   unfolding is_id
   id_long h = rw (lt-ltb 0 (length value) (omega arith), lt-leb (length value) 16 h)
 
@@ -39,11 +37,11 @@ unfolding is_id
 id_start value h l = record { within = omega arith; rest = rw (lt-ltb 0 (length value) h, le-leb (length value) 16 l) }
 
 module _ {value : List ℕ} {i : ℕ} (from : IdFrom value i) where
-  pub id_over : length value ≤ i → id.Valid ≡ id_in value
+  pub id_over : length value ≤ i → true ≡ is_id value
   unfolding all_id_bytes
   id_over h = rw (from.rest, drop_of_length-le value {i = i} h)
 
-  pub id_other : i < length value → is_id_byte (get_or value i 0) ≡ false → id.Malformed ≡ id_in value
+  pub id_other : i < length value → is_id_byte (get_or value i 0) ≡ false → false ≡ is_id value
   unfolding all_id_bytes
   id_other h e = rw (from.rest, drop-cons value i 0 h, e)
 
@@ -58,24 +56,24 @@ unfolding is_id
 id_none_empty key value e = let z : ◌≡◌ {A = ℕ} 0 1 = cc in omega arith
 
 -- what the reader of ids said of the line's value, and what the line gives
-module _ (key text : List ℕ) (at : ℕ) {value : List ℕ} {found : Id} (same : value ≡ value_at key text at) (is : found ≡ id_in value) where
-  judged_is : {said : Id} → found ≡ said → (id_field key).read (value_at key text at) ≡ judged_id value said
+module _ (key text : List ℕ) (at : ℕ) {value : List ℕ} {found : Bool} (same : value ≡ value_at key text at) (is : found ≡ is_id value) where
+  judged_is : {said : Bool} → found ≡ said → (id_field key).read (value_at key text at) ≡ judged_id value said
   judged_is told = rw (← same) (ap (judged_id value) (sym is ∙ told))
 
-  pub id_got : found ≡ id.Valid → got value (next_at at key value) ≡ field_at (id_field key) text at
+  pub id_got : found ≡ true → got value (next_at at key value) ≡ field_at (id_field key) text at
   id_got told = ap (λ (bytes : List ℕ). got value (next_at at key bytes)) same ∙ field_got (id_field key) text at (id_none_empty key) (judged_is told)
 
-  pub id_within : found ≡ id.Valid → next_at at key value ≤ length text
+  pub id_within : found ≡ true → next_at at key value ≤ length text
   id_within told = rw same (field_within (id_field key) text at (id_none_empty key) (judged_is told)).0
 
-  pub id_refused : found ≡ id.Malformed → refused (value_fault key text at 6) ≡ field_at (id_field key) text at
+  pub id_refused : found ≡ false → refused (value_fault key text at 6) ≡ field_at (id_field key) text at
   id_refused told = field_refused (id_field key) text at (judged_is told)
 
 -- an id is read as its own bytes
 pub id_is : (key bytes value : List ℕ) → (id_field key).read bytes ≡ good value → (bytes ≡ value) × (is_id bytes ≡ true)
 id_is key bytes value e = go (is_id bytes) refl e
   where
-    go : (b : Bool) → is_id bytes ≡ b → judged_id bytes (cond b id.Valid id.Malformed) ≡ good value → (bytes ≡ value) × (is_id bytes ≡ true)
+    go : (b : Bool) → is_id bytes ≡ b → judged_id bytes b ≡ good value → (bytes ≡ value) × (is_id bytes ≡ true)
     go true h e = (cc, h)
     go false h e = let z : ◌≡◌ {A = ℕ} 0 1 = cc in absurd (omega arith)
 
@@ -125,8 +123,8 @@ id_free mark none bytes e =
     (and_right (leb (length bytes) 16) (all_id_bytes bytes) (and_right (ltb 0 (length bytes)) (leb (length bytes) 16 && all_id_bytes bytes) e))
 
 pub id_numbered : (key : List ℕ) → FieldNumbered (id_field key)
-id_numbered key value = go (id_in value)
+id_numbered key value = go (is_id value)
   where
-    go : (found : Id) → JudgedNumbered (judged_id value found)
-    go id.Valid = tt
-    go id.Malformed = (omega arith, omega arith)
+    go : (found : Bool) → JudgedNumbered (judged_id value found)
+    go true = tt
+    go false = (omega arith, omega arith)

@@ -2,14 +2,7 @@
 #![tactic(auto)]
 
 ghost use Rattle.std.specs.Prelude.{◌≡◌};
-ghost use Rattle.text_id.specs.Id.{is_id_byte, id_in};
-
-// Whether a value's bytes are an id; any other value is badly written (6).
-#[derive(Clone, Copy)]
-pub enum Id {
-    Valid,
-    Malformed,
-}
+ghost use Rattle.text_id.specs.Id.{is_id, is_id_byte};
 
 fn is_id_byte(byte: u8) -> bool
     ensures { result ≡ is_id_byte byte }
@@ -29,22 +22,22 @@ fn is_id_byte(byte: u8) -> bool
     byte == 95
 }
 
-// The bytes of a value, read as an id, which is the bytes themselves.
-pub fn id_of(value: &[u8]) -> Id
-    ensures { result ≡ id_in value.now }
+// Whether the bytes of a value are an id; any other value is badly written (6).
+pub fn is_id(value: &[u8]) -> bool
+    ensures { result ≡ is_id value.now }
 {
     if value.len() == 0 {
-        return Id::Malformed;
+        return false;
     }
     if 16 < value.len() {
-        return Id::Malformed;
+        return false;
     }
     let mut i: usize = 0;
     while i < value.len() {
         if !is_id_byte(value[i]) {
-            return Id::Malformed;
+            return false;
         }
         i += 1;
     }
-    Id::Valid
+    true
 }

@@ -4,8 +4,8 @@ use mathlib.Core.Path.{sym, ◌∙◌}
 use lib.ListN.{length}
 use Rattle.text_id.proofs.Ids.{IdFrom, id_none, id_long, id_start, id_over, id_other, id_more}
 use native.Mathlib.Omega.{arith}
-use Rattle.text_id.proofs.id_of.Statement.{statement}
-use Rattle.text_id.proofs.id_of.Tie as tie
+use Rattle.text_id.proofs.is_id.Statement.{statement}
+use Rattle.text_id.proofs.is_id.Tie as tie
 
 abbrev invariant-loop : tie.invariant-loop-i
 invariant-loop value i₀ i = IdFrom value i
@@ -45,8 +45,8 @@ loop-again c =
 returns-4 : tie.Need-returns invariant-loop decreases-loop
 returns-4 c = id_over c.loop-i.invariant (omega arith)
 
-pub id_of_spec : {M : Type 1} → statement M
-id_of_spec =
+pub is_id_spec : {M : Type 1} → statement M
+is_id_spec =
     tie.close
     (tie.spec
     invariant-loop
