@@ -3,12 +3,19 @@ use Prim.Native.Nat.{ℕ, zero, suc, ◌≤◌, ◌<◌}
 use native.Mathlib.Omega.{arith}
 use mathlib.Core.Bool.{Bool, true, false, not, ◌&&◌}
 use mathlib.Core.List.{List, [], ◌∷◌}
-use mathlib.Core.Path.{◌≡◌, refl}
+use mathlib.Core.Path.{◌≡◌, refl, ap}
 use lib.Dec.{eqb, leb}
 use lib.ListN.{length, get_or}
 use borrow.Author.Tests.{leb-true, ne_eqb}
+use Rattle.std.specs.List.{list_all}
 use Rattle.text_refusal.proofs.Choices.{and_left, and_right}
 use Rattle.text_number.specs.Number.{is_digit, all_digits, plain}
+
+-- a test of every byte
+pub every_digit : (s : List ℕ) → list_all is_digit s ≡ all_digits s
+unfolding all_digits
+every_digit [] = refl
+every_digit (byte ∷ s) = ap (λ (rest : Bool). is_digit byte && rest) (every_digit s)
 
 pub digit_at : (s : List ℕ) (i : ℕ) → all_digits s ≡ true → i < length s → (48 ≤ get_or s i 0) × (get_or s i 0 ≤ 57)
 unfolding all_digits

@@ -14,28 +14,27 @@ use lib.IntN.{ℤ}
 use lib.ListN.{length, get_or, take, drop, take-append-drop, length-append, drop_of_length-le}
 use lib.Seq.{take_at, drop-cons, get_or-append_seam}
 use lib.Signed.{le_z}
+use Rattle.std.specs.Prelude.{Result, Ok, Err}
 use Rattle.text_line.specs.Judged.{good}
 use Rattle.text_line.specs.Line.{value_at, value_fault}
 use Rattle.text_line.specs.Field.{Field, got, refused, next_at, field_at}
 use Rattle.text_line.proofs.Fields.{NoneEmpty, field_got, field_within, field_refused}
-use Rattle.text_number.specs.Number.{plain, natural_of, positive, negative, number_of, in_range, ranged, number_in, written_number}
+use Rattle.text_number.specs.Number.{plain, natural_of, positive, negative, number_of, in_range, ranged, number_in, number_refusal, written_number}
 use Rattle.text_number.specs.Field.{judged_number}
-use Rattle.text_number.specs.declared.Number.{Number}
-use Rattle.text_number.specs.declared.Number.TheVariants as number
+use Rattle.text_number.specs.declared.NumberError.{NumberError}
+use Rattle.text_number.specs.declared.NumberError.TheVariants as error
 use Rattle.text_number.proofs.Digits.{digit_at, plain_digits}
 use Rattle.text_number.proofs.WrittenDigits.{number_of_written}
-use Rattle.text_number.specs.Marked.{Marked, ends_in_mark, without_mark, plain_number, suspect_number, marked_in, marked_refusal, judged_marked, written_marked, numbers_of, marks_of, first_marked, marked_by}
-use Rattle.text_number.specs.declared.marked.MarkedNumber.{MarkedNumber}
+use Rattle.text_number.specs.Marked.{Marked, ends_in_mark, without_mark, plain_number, suspect_number, marked_in, judged_marked, written_marked, numbers_of, marks_of, first_marked, marked_by}
 use Rattle.text_number.proofs.Fields.{number_between}
-use Rattle.text_number.specs.declared.marked.MarkedNumber.TheVariants as marked-number
 use Rattle.text_number.proofs.Numbers.{number_none}
 
 module _ (low high : ℤ) (s : List ℕ) where
-  pub marked_none : length s ≡ 0 → marked-number.Malformed ≡ marked_in low high s
+  pub marked_none : length s ≡ 0 → Err error.Malformed ≡ marked_in low high s
   unfolding marked_in
   marked_none e = go s e
     where
-      go : (s : List ℕ) → length s ≡ 0 → marked-number.Malformed ≡ cond (ends_in_mark s) (suspect_number (number_in low high (without_mark s))) (plain_number (number_in low high s))
+      go : (s : List ℕ) → length s ≡ 0 → Err error.Malformed ≡ cond (ends_in_mark s) (suspect_number (number_in low high (without_mark s))) (plain_number (number_in low high s))
       go [] e = ap plain_number (number_none low high [] refl)
       go (byte ∷ s) e = absurd (omega arith)
 
@@ -97,21 +96,18 @@ mark_last (byte ∷ rest) e =
 
 -- ---- what a value gives with a mark and without one
 
-judged-value : (n : Number) {z : ℤ} → judged_number n ≡ good z → n ≡ number.Value z
-judged-value (number.Value y) {z} e = let same : y ≡ z = cc in ap number.Value same
-judged-value number.Outside e = let n : ◌≡◌ {A = ℕ} 0 1 = cc in absurd (omega arith)
-judged-value number.Malformed e = let n : ◌≡◌ {A = ℕ} 0 1 = cc in absurd (omega arith)
+judged-value : (n : Result ℤ NumberError) {z : ℤ} → judged_number n ≡ good z → n ≡ Ok z
+judged-value (Ok y) {z} e = let same : y ≡ z = cc in ap Ok same
+judged-value (Err why) e = let n : ◌≡◌ {A = ℕ} 0 1 = cc in absurd (omega arith)
 
 -- a number that is taken without a mark, and one with a mark
-pub plain_value : (n : Number) {m : Marked} → judged_marked (plain_number n) ≡ good m → (n ≡ number.Value m.number) × (m.suspect ≡ false)
-plain_value (number.Value y) {m} e = let same : m ≡ record { number = y; suspect = false } = cc in (rw same, rw same)
-plain_value number.Outside e = let n : ◌≡◌ {A = ℕ} 0 1 = cc in absurd (omega arith)
-plain_value number.Malformed e = let n : ◌≡◌ {A = ℕ} 0 1 = cc in absurd (omega arith)
+pub plain_value : (n : Result ℤ NumberError) {m : Marked} → judged_marked (plain_number n) ≡ good m → (n ≡ Ok m.number) × (m.suspect ≡ false)
+plain_value (Ok y) {m} e = let same : m ≡ record { number = y; suspect = false } = cc in (rw same, rw same)
+plain_value (Err why) e = let n : ◌≡◌ {A = ℕ} 0 1 = cc in absurd (omega arith)
 
-pub suspect_value : (n : Number) {m : Marked} → judged_marked (suspect_number n) ≡ good m → (n ≡ number.Value m.number) × (m.suspect ≡ true)
-suspect_value (number.Value y) {m} e = let same : m ≡ record { number = y; suspect = true } = cc in (rw same, rw same)
-suspect_value number.Outside e = let n : ◌≡◌ {A = ℕ} 0 1 = cc in absurd (omega arith)
-suspect_value number.Malformed e = let n : ◌≡◌ {A = ℕ} 0 1 = cc in absurd (omega arith)
+pub suspect_value : (n : Result ℤ NumberError) {m : Marked} → judged_marked (suspect_number n) ≡ good m → (n ≡ Ok m.number) × (m.suspect ≡ true)
+suspect_value (Ok y) {m} e = let same : m ≡ record { number = y; suspect = true } = cc in (rw same, rw same)
+suspect_value (Err why) e = let n : ◌≡◌ {A = ℕ} 0 1 = cc in absurd (omega arith)
 
 module _ (low high : ℤ) (bytes : List ℕ) where
   -- what the reader of numbers takes is taken without a mark, in a line where a mark may stand and in one where none may
@@ -123,7 +119,7 @@ module _ (low high : ℤ) (bytes : List ℕ) where
     where
       go : (b : Bool) → ends_in_mark bytes ≡ b → judged_marked (marked_in low high bytes) ≡ good (record { number = z; suspect = false })
       go true h =
-          let none_read : number.Malformed ≡ number.Value z = sym (ap (ranged low high) (mark_no_number bytes h)) ∙ judged-value (number_in low high bytes) e in
+          let none_read : ◌≡◌ {A = Result ℤ NumberError} (Err error.Malformed) (Ok z) = sym (ap (ranged low high) (mark_no_number bytes h)) ∙ judged-value (number_in low high bytes) e in
           let n : ◌≡◌ {A = ℕ} 0 1 = cc in
           absurd (omega arith)
       go false h = ap judged_marked (sym (marked_plain low high bytes h)) ∙ plain-judged e
@@ -150,15 +146,15 @@ suspect_reads low high z =
 
 -- ---- a line by what a reader says of its value
 
-abbrev pub as_field : List ℕ → (List ℕ → MarkedNumber) → Field Marked
+abbrev pub as_field : List ℕ → (List ℕ → Result Marked NumberError) → Field Marked
 as_field key reader = record { key = key; read = λ value. judged_marked (reader value); write = written_marked }
 
-module _ (key text : List ℕ) (at : ℕ) (reader : List ℕ → MarkedNumber) (empty : reader [] ≡ marked-number.Malformed) {value : List ℕ} {n : MarkedNumber} (same : value ≡ value_at key text at) (is : n ≡ reader value) where
-  judged_is : {said : MarkedNumber} → n ≡ said → judged_marked (reader (value_at key text at)) ≡ judged_marked said
+module _ (key text : List ℕ) (at : ℕ) (reader : List ℕ → Result Marked NumberError) (empty : reader [] ≡ Err error.Malformed) {value : List ℕ} {n : Result Marked NumberError} (same : value ≡ value_at key text at) (is : n ≡ reader value) where
+  judged_is : {said : Result Marked NumberError} → n ≡ said → judged_marked (reader (value_at key text at)) ≡ judged_marked said
   judged_is told = ap judged_marked (ap reader (sym same) ∙ sym is ∙ told)
 
   none_empty : NoneEmpty (as_field key reader)
-  none_empty m e = let none_read : judged_marked marked-number.Malformed ≡ good m = ap judged_marked (sym empty) ∙ e in let z : ◌≡◌ {A = ℕ} 0 1 = cc in omega arith
+  none_empty m e = let none_read : judged_marked (Err error.Malformed) ≡ good m = ap judged_marked (sym empty) ∙ e in let z : ◌≡◌ {A = ℕ} 0 1 = cc in omega arith
 
   pub marked_got : {m : Marked} → judged_marked n ≡ good m → got m (next_at at key value) ≡ field_at (as_field key reader) text at
   marked_got told = rw same (field_got (as_field key reader) text at none_empty (judged_is refl ∙ told))
@@ -166,19 +162,17 @@ module _ (key text : List ℕ) (at : ℕ) (reader : List ℕ → MarkedNumber) (
   pub marked_within : {m : Marked} → judged_marked n ≡ good m → next_at at key value ≤ length text
   marked_within told = rw same (field_within (as_field key reader) text at none_empty (judged_is refl ∙ told)).0
 
-  pub marked_turned : (marked_refusal n ≡ 0 → ⊥) → refused (value_fault key text at (marked_refusal n)) ≡ field_at (as_field key reader) text at
+  pub marked_turned : (number_refusal n ≡ 0 → ⊥) → refused (value_fault key text at (number_refusal n)) ≡ field_at (as_field key reader) text at
   marked_turned not_taken = go n refl
     where
-      go : (said : MarkedNumber) → n ≡ said → refused (value_fault key text at (marked_refusal n)) ≡ field_at (as_field key reader) text at
-      go (marked-number.Plain z) told = absurd (not_taken (rw told refl))
-      go (marked-number.Suspect z) told = absurd (not_taken (rw told refl))
-      go marked-number.Outside told = rw told (field_refused (as_field key reader) text at (judged_is told))
-      go marked-number.Malformed told = rw told (field_refused (as_field key reader) text at (judged_is told))
+      go : (said : Result Marked NumberError) → n ≡ said → refused (value_fault key text at (number_refusal n)) ≡ field_at (as_field key reader) text at
+      go (Ok m) told = absurd (not_taken (rw told refl))
+      go (Err why) told = rw told (field_refused (as_field key reader) text at (judged_is told))
 
 -- ---- a number that was read lies within its bounds
 
 module _ (low high : ℤ) (bytes : List ℕ) (m : Marked) where
-  value_between : (n : List ℕ) → number_in low high n ≡ number.Value m.number → (le_z low m.number ≡ true) × (le_z m.number high ≡ true)
+  value_between : (n : List ℕ) → number_in low high n ≡ Ok m.number → (le_z low m.number ≡ true) × (le_z m.number high ≡ true)
   value_between n e = number_between low high m.number n (ap judged_number e)
 
   pub unmarked_between : judged_marked (plain_number (number_in low high bytes)) ≡ good m → (le_z low m.number ≡ true) × (le_z m.number high ≡ true)

@@ -11,11 +11,12 @@ use lib.Dec.{leb, eqb}
 use lib.ListN.{length, take, drop, get_or, drop_of_length-le}
 use lib.Seq.{take-suc, drop-cons, take_all}
 use borrow.Author.Tests.{le-leb, lt-leb, leb-false, eqb-false, not-true}
+use Rattle.std.specs.Prelude.{Result, Ok, Err}
 use Rattle.text_refusal.proofs.Choices.{and_left}
 use Rattle.text_number.specs.Number.{all_digits, value_of, plain, natural_of}
 use Rattle.text_number.specs.internal.Natural.{held_natural}
-use Rattle.text_number.specs.declared.natural.Natural.{Natural}
-use Rattle.text_number.specs.declared.natural.Natural.TheVariants as natural
+use Rattle.text_number.specs.declared.NumberError.{NumberError}
+use Rattle.text_number.specs.declared.NumberError.TheVariants as error
 use Rattle.text_number.proofs.Digits.{digit_at, plain_led, plain_one, plain_other, plain_digits}
 
 -- ---- digits one by one
@@ -95,62 +96,62 @@ large_digits (byte ∷ (next ∷ rest)) p l =
 
 -- ---- what the code holds
 
-pub data HeldIs (digits : List ℕ) : Natural → Type 0 where
-  small : natural_of digits ≡ some (value_of 0 digits) → HeldIs digits (natural.Value (value_of 0 digits))
-  large : {value : ℕ} → natural_of digits ≡ some value → 10000000000000000000 ≤ value → HeldIs digits natural.Large
-  broken : natural_of digits ≡ none → HeldIs digits natural.Malformed
+pub data HeldIs (digits : List ℕ) : Result ℕ NumberError → Type 0 where
+  small : natural_of digits ≡ some (value_of 0 digits) → HeldIs digits (Ok (value_of 0 digits))
+  large : {value : ℕ} → natural_of digits ≡ some value → 10000000000000000000 ≤ value → HeldIs digits (Err error.Outside)
+  broken : natural_of digits ≡ none → HeldIs digits (Err error.Malformed)
 
 pub held_is : (digits : List ℕ) → HeldIs digits (held_natural digits)
 unfolding held_natural
 held_is digits = go (plain digits) refl (leb (length digits) 19) refl
   where
-    go : (p : Bool) → plain digits ≡ p → (few : Bool) → leb (length digits) 19 ≡ few → HeldIs digits (cond p (cond few (natural.Value (value_of 0 digits)) natural.Large) natural.Malformed)
+    go : (p : Bool) → plain digits ≡ p → (few : Bool) → leb (length digits) 19 ≡ few → HeldIs digits (cond p (cond few (Ok (value_of 0 digits)) (Err error.Outside)) (Err error.Malformed))
     go true p true few = small (rw p)
     go true p false few = large {value = value_of 0 digits} (rw p) (large_digits digits p (leb-false (length digits) 19 few))
     go false p few f = broken (rw p)
 
 -- the digits of a text, from what was seen of them
 module _ (s : List ℕ) where
-  pub held_none : plain s ≡ false → natural.Malformed ≡ held_natural s
+  pub held_none : plain s ≡ false → Err error.Malformed ≡ held_natural s
   unfolding held_natural
   held_none p = rw p
 
-  pub held_empty : length s ≡ 0 → natural.Malformed ≡ held_natural s
+  pub held_empty : length s ≡ 0 → Err error.Malformed ≡ held_natural s
   held_empty e = held_none (empty s e)
     where
       empty : (s : List ℕ) → length s ≡ 0 → plain s ≡ false
       empty [] e = refl
       empty (byte ∷ s) e = absurd (omega arith)
 
-  pub held_led : 1 < length s → get_or s 0 0 ≡ 48 → natural.Malformed ≡ held_natural s
+  pub held_led : 1 < length s → get_or s 0 0 ≡ 48 → Err error.Malformed ≡ held_natural s
   held_led l e = held_none (plain_led s l e)
 
-  pub held_broken : all_digits s ≡ false → natural.Malformed ≡ held_natural s
+  pub held_broken : all_digits s ≡ false → Err error.Malformed ≡ held_natural s
   held_broken d = held_none (go (plain s) refl)
     where
       go : (p : Bool) → plain s ≡ p → p ≡ false
       go true p = let z : true ≡ false = sym (plain_digits s p) ∙ d in z
       go false p = refl
 
-  pub held_large : 19 < length s → (get_or s 0 0 ≡ 48 → ⊥) → all_digits s ≡ true → natural.Large ≡ held_natural s
+  pub held_large : 19 < length s → (get_or s 0 0 ≡ 48 → ⊥) → all_digits s ≡ true → Err error.Outside ≡ held_natural s
   unfolding held_natural
   held_large l other d = rw (plain_other s (omega arith) other ∙ d, lt-leb (length s) 19 l)
 
   -- every byte was read
   module _ (i value : ℕ) (few : length s ≤ 19) (over : length s ≤ i) (read : DigitsRead s i value) where
-    held_value : plain s ≡ all_digits s → natural.Value value ≡ held_natural s
+    held_value : plain s ≡ all_digits s → Ok value ≡ held_natural s
     unfolding held_natural
     held_value p =
-        rw (p ∙ read.rest ∙ digits_over s i over, le-leb (length s) 19 few) (ap natural.Value (read.worth ∙ ap (value_of 0) (take_all i s over)))
+        rw (p ∙ read.rest ∙ digits_over s i over, le-leb (length s) 19 few) (ap Ok (read.worth ∙ ap (value_of 0) (take_all i s over)))
 
-    pub held_one : i ≡ 1 → natural.Value value ≡ held_natural s
+    pub held_one : i ≡ 1 → Ok value ≡ held_natural s
     held_one e = held_value (plain_one s (omega (arith, read.within)))
 
-    pub held_many : (i ≡ 0 → ⊥) → (get_or s 0 0 ≡ 48 → ⊥) → natural.Value value ≡ held_natural s
+    pub held_many : (i ≡ 0 → ⊥) → (get_or s 0 0 ≡ 48 → ⊥) → Ok value ≡ held_natural s
     held_many n other = held_value (plain_other s (omega (arith, n, read.within)) other)
 
-    pub held_zero_led : (i ≡ 1 → ⊥) → (i ≡ 0 → ⊥) → get_or s 0 0 ≡ 48 → natural.Malformed ≡ held_natural s
+    pub held_zero_led : (i ≡ 1 → ⊥) → (i ≡ 0 → ⊥) → get_or s 0 0 ≡ 48 → Err error.Malformed ≡ held_natural s
     held_zero_led n m e = held_led (omega (arith, n, m, read.within)) e
 
-    pub held_no_bytes : i ≡ 0 → natural.Malformed ≡ held_natural s
+    pub held_no_bytes : i ≡ 0 → Err error.Malformed ≡ held_natural s
     held_no_bytes e = held_empty (omega arith)

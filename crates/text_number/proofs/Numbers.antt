@@ -14,10 +14,10 @@ use borrow.Author.Tests.{lt-ltb, le-ltb, ltb-true, ltb-false, lt-leb, not-true, 
 use mir.Syntax.{w64}
 use mir.Val.{SFits, to_z, of_z, bool_byte}
 use mir.Facts.{to_z-of_z}
+use Rattle.std.specs.Prelude.{Result, Ok, Err}
 use Rattle.text_number.specs.Number.{natural_of, negative, number_of, in_range, ranged, number_in}
-use Rattle.text_number.specs.declared.Number.TheVariants as number
-use Rattle.text_number.specs.declared.natural.Natural.{Natural}
-use Rattle.text_number.specs.declared.natural.Natural.TheVariants as natural
+use Rattle.text_number.specs.declared.NumberError.{NumberError}
+use Rattle.text_number.specs.declared.NumberError.TheVariants as error
 use Rattle.text_number.specs.internal.Natural.{held_natural, signed_number, signed, is_outside}
 use Rattle.text_number.proofs.Naturals.{HeldIs, small, large, broken, held_is}
 
@@ -71,10 +71,10 @@ module _ (low high : ℤ) where
   above_all (pos a) n f h = lt-leb n a (omega (arith, f.sfits))
   above_all (negsuc a) n f h = refl
 
-  pub too_low : (n : ℕ) → SFits w64 low → 2 ^ 63 ≤ n → in_range low high (negsuc n) ≡ number.Outside
+  pub too_low : (n : ℕ) → SFits w64 low → 2 ^ 63 ≤ n → in_range low high (negsuc n) ≡ Err error.Outside
   too_low n f h = rw (below_all low n f h)
 
-  pub too_high : (n : ℕ) → SFits w64 high → 2 ^ 63 ≤ n → in_range low high (pos n) ≡ number.Outside
+  pub too_high : (n : ℕ) → SFits w64 high → 2 ^ 63 ≤ n → in_range low high (pos n) ≡ Err error.Outside
   too_high n f h = rw (above_all high n f h, and-false (le_z low (pos n)))
 
   pub far_outside : SFits w64 low → SFits w64 high → (negative : Bool) (n : ℕ) → 2 ^ 63 ≤ n → is_outside low high (signed negative n) ≡ true
@@ -101,16 +101,16 @@ number_parts [] b h e = absurd (omega arith)
 number_parts (byte ∷ s) true h e = rw e
 number_parts (byte ∷ s) false h e = rw e
 
-pub number_none : (low high : ℤ) (s : List ℕ) → length s ≡ 0 → number.Malformed ≡ number_in low high s
+pub number_none : (low high : ℤ) (s : List ℕ) → length s ≡ 0 → Err error.Malformed ≡ number_in low high s
 unfolding number_of
 number_none low high [] e = refl
 number_none low high (byte ∷ s) e = absurd (omega arith)
 
-malformed : (low high : ℤ) (b : Bool) → number.Malformed ≡ ranged low high (signed_number b none)
+malformed : (low high : ℤ) (b : Bool) → Err error.Malformed ≡ ranged low high (signed_number b none)
 malformed low high true = refl
 malformed low high false = refl
 
-outside : (low high : ℤ) → SFits w64 low → SFits w64 high → (b : Bool) (n : ℕ) → 2 ^ 63 < n → number.Outside ≡ ranged low high (signed_number b (some n))
+outside : (low high : ℤ) → SFits w64 low → SFits w64 high → (b : Bool) (n : ℕ) → 2 ^ 63 < n → Err error.Outside ≡ ranged low high (signed_number b (some n))
 outside low high fl fh true zero h = absurd (omega arith)
 outside low high fl fh true (suc n) h = sym (too_low low high n fl (omega arith))
 outside low high fl fh false n h = sym (too_high low high n fh (omega arith))
@@ -120,39 +120,44 @@ negative_some zero h = absurd (omega arith)
 negative_some (suc n) h = let e : suc n - 1 ≡ n = omega arith in rw e
 
 -- a number in its range, by its sign and distance, and one that is out
-pub in_range_lem : (low high z : ℤ) → is_outside low high z ≡ false → number.Value z ≡ in_range low high z
+pub in_range_lem : (low high z : ℤ) → is_outside low high z ≡ false → Ok z ≡ in_range low high z
 in_range_lem low high z e = rw (not-false (le_z low z && le_z z high) e)
 
-pub out_of_range : (low high z : ℤ) → is_outside low high z ≡ true → number.Outside ≡ in_range low high z
+pub out_of_range : (low high z : ℤ) → is_outside low high z ≡ true → Err error.Outside ≡ in_range low high z
 out_of_range low high z e = rw (not-true (le_z low z && le_z z high) e)
 
 -- what the digits say, and what the number is
 module _
-    (low high : ℤ) (s digits : List ℕ) (b : Bool) {n : Natural} (some_bytes : 0 < length s) (sign : eqb (get_or s 0 0) 45 ≡ b)
+    (low high : ℤ) (s digits : List ℕ) (b : Bool) {n : Result ℕ NumberError} (some_bytes : 0 < length s) (sign : eqb (get_or s 0 0) 45 ≡ b)
     (same : digits ≡ drop (bool_byte b) s) (is : n ≡ held_natural digits) where
   whole : (o : Option ℕ) → natural_of digits ≡ o → ranged low high (signed_number b o) ≡ number_in low high s
   whole o e = ap (λ (x : Option ℕ). ranged low high (signed_number b x)) (sym e) ∙ rw same (ap (ranged low high) (sym (number_parts s b some_bytes sign)))
 
-  pub number_value : {m : ℕ} → n ≡ natural.Value m → ranged low high (signed_number b (some m)) ≡ number_in low high s
+  pub number_value : {m : ℕ} → n ≡ Ok m → ranged low high (signed_number b (some m)) ≡ number_in low high s
   number_value {m} told = go (held_natural digits) (held_is digits) (sym is ∙ told)
     where
-      go : (held : Natural) → HeldIs digits held → held ≡ natural.Value m → ranged low high (signed_number b (some m)) ≡ number_in low high s
-      go (natural.Value k) (small e) told = let k≡m : k ≡ m = cc in whole (some m) (e ∙ ap some k≡m)
-      go natural.Large (large e big) told = let z : ◌≡◌ {A = ℕ} 0 1 = cc in absurd (omega arith)
-      go natural.Malformed (broken e) told = let z : ◌≡◌ {A = ℕ} 0 1 = cc in absurd (omega arith)
+      go : (held : Result ℕ NumberError) → HeldIs digits held → held ≡ Ok m → ranged low high (signed_number b (some m)) ≡ number_in low high s
+      go (Ok k) (small e) told = let k≡m : k ≡ m = cc in whole (some m) (e ∙ ap some k≡m)
+      go (Err error.Outside) (large e big) told = let z : ◌≡◌ {A = ℕ} 0 1 = cc in absurd (omega arith)
+      go (Err error.Malformed) (broken e) told = let z : ◌≡◌ {A = ℕ} 0 1 = cc in absurd (omega arith)
 
-  pub number_large : SFits w64 low → SFits w64 high → n ≡ natural.Large → number.Outside ≡ number_in low high s
+  pub number_large : SFits w64 low → SFits w64 high → n ≡ Err error.Outside → Err error.Outside ≡ number_in low high s
   number_large fl fh told = go (held_natural digits) (held_is digits) (sym is ∙ told)
     where
-      go : (held : Natural) → HeldIs digits held → held ≡ natural.Large → number.Outside ≡ number_in low high s
-      go (natural.Value k) (small e) told = let z : ◌≡◌ {A = ℕ} 0 1 = cc in absurd (omega arith)
-      go natural.Large (large {value} e big) told = outside low high fl fh b value (omega (arith, big)) ∙ whole (some value) e
-      go natural.Malformed (broken e) told = let z : ◌≡◌ {A = ℕ} 0 1 = cc in absurd (omega arith)
+      go : (held : Result ℕ NumberError) → HeldIs digits held → held ≡ Err error.Outside → Err error.Outside ≡ number_in low high s
+      go (Ok k) (small e) told = let z : ◌≡◌ {A = ℕ} 0 1 = cc in absurd (omega arith)
+      go (Err error.Outside) (large {value} e big) told = outside low high fl fh b value (omega (arith, big)) ∙ whole (some value) e
+      go (Err error.Malformed) (broken e) told = let z : ◌≡◌ {A = ℕ} 0 1 = cc in absurd (omega arith)
 
-  pub number_broken : n ≡ natural.Malformed → number.Malformed ≡ number_in low high s
+  pub number_broken : n ≡ Err error.Malformed → Err error.Malformed ≡ number_in low high s
   number_broken told = go (held_natural digits) (held_is digits) (sym is ∙ told)
     where
-      go : (held : Natural) → HeldIs digits held → held ≡ natural.Malformed → number.Malformed ≡ number_in low high s
-      go (natural.Value k) (small e) told = let z : ◌≡◌ {A = ℕ} 0 1 = cc in absurd (omega arith)
-      go natural.Large (large e big) told = let z : ◌≡◌ {A = ℕ} 0 1 = cc in absurd (omega arith)
-      go natural.Malformed (broken e) told = malformed low high b ∙ whole none e
+      go : (held : Result ℕ NumberError) → HeldIs digits held → held ≡ Err error.Malformed → Err error.Malformed ≡ number_in low high s
+      go (Ok k) (small e) told = let z : ◌≡◌ {A = ℕ} 0 1 = cc in absurd (omega arith)
+      go (Err error.Outside) (large e big) told = let z : ◌≡◌ {A = ℕ} 0 1 = cc in absurd (omega arith)
+      go (Err error.Malformed) (broken e) told = malformed low high b ∙ whole none e
+
+  -- what the reader of digits refuses, the reader of numbers refuses with the same error
+  pub number_refused : SFits w64 low → SFits w64 high → (e : NumberError) → n ≡ Err e → Err e ≡ number_in low high s
+  number_refused fl fh error.Outside told = number_large fl fh told
+  number_refused fl fh error.Malformed told = number_broken told

@@ -1,18 +1,13 @@
 -- Document 02, W-206: a number that may end in one `?`, by which a reading is marked suspect.
-use Rattle.std.specs.Prelude.{ℕ, ◌+◌, ◌-◌, ◌*◌, ◌/◌, ◌%◌, Bool, true, false, cond, List, [], ◌∷◌, ◌++◌, map, eqb, ℤ, length, get_or}
-use Rattle.text_line.specs.Judged.{Judged, good, bad}
+use Rattle.std.specs.Prelude.{ℕ, ◌+◌, ◌-◌, ◌*◌, ◌/◌, ◌%◌, Bool, true, false, cond, List, [], ◌∷◌, ◌++◌, map, eqb, ℤ, length, get_or, Result, Ok, Err}
+use Rattle.text_line.specs.Judged.{Judged}
 use Rattle.text_line.specs.Piece.{part}
 use Rattle.text_line.specs.Field.{Field}
 use Rattle.text_number.specs.Number.{number_in, written_number}
-use Rattle.text_number.specs.declared.Number.{Number}
-use Rattle.text_number.specs.declared.Number.TheVariants as number
-use Rattle.text_number.specs.declared.marked.MarkedNumber.{MarkedNumber}
-use Rattle.text_number.specs.declared.marked.MarkedNumber.TheVariants as marked-number
-
+use Rattle.text_number.specs.Field.{judged_number}
+use Rattle.text_number.specs.declared.NumberError.{NumberError}
 -- a number, and whether it is marked suspect
-pub record Marked : Type 0 where
-  pub number : ℤ
-  pub suspect : Bool
+pub use Rattle.text_number.specs.declared.marked.Marked.{Marked}
 
 -- ---- reading
 
@@ -24,32 +19,23 @@ abbrev pub without_mark : List ℕ → List ℕ
 without_mark value = part value 0 (length value - 1)
 
 -- what the bytes of a value say: a number without a mark, one with a mark, one out of its range, or a badly written one
-abbrev pub plain_number : Number → MarkedNumber
-plain_number (number.Value z) = marked-number.Plain z
-plain_number number.Outside = marked-number.Outside
-plain_number number.Malformed = marked-number.Malformed
+abbrev pub with_mark : Bool → Result ℤ NumberError → Result Marked NumberError
+with_mark suspect (Ok z) = Ok (record { number = z; suspect = suspect })
+with_mark suspect (Err e) = Err e
 
-abbrev pub suspect_number : Number → MarkedNumber
-suspect_number (number.Value z) = marked-number.Suspect z
-suspect_number number.Outside = marked-number.Outside
-suspect_number number.Malformed = marked-number.Malformed
+abbrev pub plain_number : Result ℤ NumberError → Result Marked NumberError
+plain_number n = with_mark false n
+
+abbrev pub suspect_number : Result ℤ NumberError → Result Marked NumberError
+suspect_number n = with_mark true n
 
 -- the bytes before one `?` are read as a number: a mark alone and a second mark are badly written
-unfoldable pub marked_in : ℤ → ℤ → List ℕ → MarkedNumber
+unfoldable pub marked_in : ℤ → ℤ → List ℕ → Result Marked NumberError
 marked_in low high value = cond (ends_in_mark value) (suspect_number (number_in low high (without_mark value))) (plain_number (number_in low high value))
 
--- document 01's number for each case: out of range 7, badly written 6; 0 is no refusal
-abbrev pub marked_refusal : MarkedNumber → ℕ
-marked_refusal (marked-number.Plain z) = 0
-marked_refusal (marked-number.Suspect z) = 0
-marked_refusal marked-number.Outside = 7
-marked_refusal marked-number.Malformed = 6
-
-abbrev pub judged_marked : MarkedNumber → Judged Marked
-judged_marked (marked-number.Plain z) = good (record { number = z; suspect = false })
-judged_marked (marked-number.Suspect z) = good (record { number = z; suspect = true })
-judged_marked marked-number.Outside = bad (marked_refusal marked-number.Outside)
-judged_marked marked-number.Malformed = bad (marked_refusal marked-number.Malformed)
+-- document 01's number for each refusal is `number_refusal`
+abbrev pub judged_marked : Result Marked NumberError → Judged Marked
+judged_marked m = judged_number m
 
 -- ---- writing
 

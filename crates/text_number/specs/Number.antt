@@ -1,9 +1,9 @@
 -- Document 01, "Texts": a number is decimal digits, `-` in front if below zero, no leading zero, no `-0`. Refusals 6 and 7.
-use Rattle.std.specs.Prelude.{ℕ, zero, suc, ◌+◌, ◌-◌, ◌*◌, ◌/◌, ◌%◌, Bool, true, false, not, ◌&&◌, cond, List, [], ◌∷◌, ◌++◌, eqb, ltb, leb, ℤ, pos, negsuc}
+use Rattle.std.specs.Prelude.{ℕ, zero, suc, ◌+◌, ◌-◌, ◌*◌, ◌/◌, ◌%◌, Bool, true, false, not, ◌&&◌, cond, List, [], ◌∷◌, ◌++◌, eqb, ltb, leb, ℤ, pos, negsuc, Result, Ok, Err}
 use Rattle.std.proofs.Math.Option.{Option, none, some}
 use Rattle.std.specs.Int.Signed.{le_z}
-use Rattle.text_number.specs.declared.Number.{Number}
-use Rattle.text_number.specs.declared.Number.TheVariants as number
+use Rattle.text_number.specs.declared.NumberError.{NumberError}
+use Rattle.text_number.specs.declared.NumberError.TheVariants as error
 
 -- `0` to `9`
 abbrev pub is_digit : ℕ → Bool
@@ -44,21 +44,21 @@ number_of [] = none
 number_of (byte ∷ rest) = cond (eqb byte 45) (negative (natural_of rest)) (positive (natural_of (byte ∷ rest)))
 
 -- what the bytes of a value say: a well written number in its range, one outside it, or a badly written one
-abbrev pub in_range : ℤ → ℤ → ℤ → Number
-in_range low high z = cond (le_z low z && le_z z high) (number.Value z) number.Outside
+abbrev pub in_range : ℤ → ℤ → ℤ → Result ℤ NumberError
+in_range low high z = cond (le_z low z && le_z z high) (Ok z) (Err error.Outside)
 
-abbrev pub ranged : ℤ → ℤ → Option ℤ → Number
-ranged low high none = number.Malformed
+abbrev pub ranged : ℤ → ℤ → Option ℤ → Result ℤ NumberError
+ranged low high none = Err error.Malformed
 ranged low high (some z) = in_range low high z
 
-abbrev pub number_in : ℤ → ℤ → List ℕ → Number
+abbrev pub number_in : ℤ → ℤ → List ℕ → Result ℤ NumberError
 number_in low high value = ranged low high (number_of value)
 
 -- document 01's number for each case: a number outside its range is refused by 7, a badly written one by 6; 0 is no refusal
-abbrev pub number_refusal : Number → ℕ
-number_refusal (number.Value z) = 0
-number_refusal number.Outside = 7
-number_refusal number.Malformed = 6
+abbrev pub number_refusal : {A : Type 0} → Result A NumberError → ℕ
+number_refusal (Ok z) = 0
+number_refusal (Err error.Outside) = 7
+number_refusal (Err error.Malformed) = 6
 
 -- the digits of a number, the last one n mod 10; `steps` bounds their number from above
 unfoldable pub digits_within : ℕ → ℕ → List ℕ

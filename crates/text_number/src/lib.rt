@@ -9,24 +9,23 @@ ghost use Rattle.std.proofs.Math.Option.{some};
 ghost use Rattle.text_number.specs.Number.{number_in, number_refusal, in_range, ranged};
 ghost use Rattle.text_number.specs.internal.Natural.{signed, signed_number, is_outside};
 
-use crate::natural::{Natural, natural_of};
+use crate::natural::natural_of;
 
-// What the bytes of a value say: a number in its range, one outside it (7), or none, since it is badly written (6).
+// Why the bytes of a value are no number of its range: they write one outside it (7), or none, since it is badly written (6).
 #[derive(Clone, Copy)]
-pub enum Number {
-    Value(i64),
+pub enum NumberError {
     Outside,
     Malformed,
 }
 
 // The number of the refusal; 0 where the number is taken.
-pub fn number_refusal(n: Number) -> u64
+pub fn number_refusal<T: Copy>(n: Result<T, NumberError>) -> u64
     ensures { result ≡ number_refusal n }
 {
     match n {
-        Number::Value(_) => 0,
-        Number::Outside => 7,
-        Number::Malformed => 6,
+        Ok(_) => 0,
+        Err(NumberError::Outside) => 7,
+        Err(NumberError::Malformed) => 6,
     }
 }
 
@@ -58,22 +57,22 @@ fn is_outside(negative: bool, distance: u64, low: i64, high: i64) -> bool
 }
 
 // A number against its range.
-fn in_range(negative: bool, distance: u64, low: i64, high: i64) -> Number
+fn in_range(negative: bool, distance: u64, low: i64, high: i64) -> Result<i64, NumberError>
     ensures { result ≡ in_range low high (signed negative distance) }
 {
     if is_outside(negative, distance, low, high) {
-        return Number::Outside;
+        return Err(NumberError::Outside);
     }
-    Number::Value(signed(negative, distance))
+    Ok(signed(negative, distance))
 }
 
 // A number by its sign and magnitude; `-0` is none.
-fn ranged(negative: bool, magnitude: u64, low: i64, high: i64) -> Number
+fn ranged(negative: bool, magnitude: u64, low: i64, high: i64) -> Result<i64, NumberError>
     ensures { result ≡ ranged low high (signed_number negative (some magnitude)) }
 {
     if negative {
         if magnitude == 0 {
-            return Number::Malformed;
+            return Err(NumberError::Malformed);
         }
         return in_range(true, magnitude - 1, low, high);
     }
@@ -81,18 +80,17 @@ fn ranged(negative: bool, magnitude: u64, low: i64, high: i64) -> Number
 }
 
 // The bytes of a value, read as a number from low to high.
-pub fn number_of(value: &[u8], low: i64, high: i64) -> Number
+#[tactic(auto, using(crate::proofs::Numbers::number_none))]
+pub fn number_of(value: &[u8], low: i64, high: i64) -> Result<i64, NumberError>
     ensures { result ≡ number_in low high value.now }
 {
-    if value.len() == 0 {
-        return Number::Malformed;
+    if value.is_empty() {
+        return Err(NumberError::Malformed);
     }
-    let negative = value[0] == 45;
-    let start = negative as usize;
-    let n = natural_of(&value[start..]);
-    match n {
-        Natural::Value(magnitude) => ranged(negative, magnitude, low, high),
-        Natural::Large => Number::Outside,
-        Natural::Malformed => Number::Malformed,
+    if value[0] == b'-' {
+        let magnitude = natural_of(&value[1..])?;
+        return ranged(true, magnitude, low, high);
     }
+    let magnitude = natural_of(value)?;
+    ranged(false, magnitude, low, high)
 }
