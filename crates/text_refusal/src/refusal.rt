@@ -17,25 +17,17 @@ pub struct Refusal {
 }
 
 // How many lines end before a position.
-#[tactic(auto, using(crate::proofs::Refusals::ended_here, crate::proofs::Refusals::ended_over, crate::proofs::Refusals::ended_one, crate::proofs::Refusals::ended_other))]
 fn ended_lines(text: &[u8], at: usize) -> usize
     ensures { result ≡ ended_lines at text.now }
 {
-    let mut count: usize = 0;
-    let mut i: usize = 0;
-    while i < text.len() {
-        if at <= i {
-            return count;
-        }
-        if text[i] == 10 {
-            count += 1;
-        }
-        i += 1;
-    }
-    count
+    text[..at.min(text.len())]
+        .iter()
+        .filter(|&&byte| byte == b'\n')
+        .count()
 }
 
 // The refusal of a fault, its line counted in the text.
+#[tactic(auto, using(crate::proofs::Refusals::ended_at_most))]
 pub fn refusal_of(text: &[u8], fault: Fault) -> Refusal
     ensures { result ≡ refusal_of text.now fault }
 {
