@@ -9,7 +9,8 @@ use lib.ListN.{length, get_or}
 use Rattle.std.specs.Prelude.{Result}
 use Rattle.text_number.specs.Number.{number_in}
 use Rattle.text_number.specs.declared.NumberError.{NumberError}
-use Rattle.text_number.specs.Marked.{Marked, without_mark, plain_number, suspect_number, marked_in}
+use Rattle.text_number.specs.declared.marked.Marked.{Marked}
+use Rattle.text_number.specs.Marked.{without_mark, plain_number, suspect_number, marked_in}
 use Rattle.text_number.proofs.Marks.{marked_none, marked_suspect, marked_plain}
 
 module _ (low high : ℤ) (s : List ℕ) {n : Result ℤ NumberError} {m : Result Marked NumberError} where

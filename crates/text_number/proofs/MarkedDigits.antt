@@ -14,7 +14,8 @@ use lib.Seq.{take-suc, get_or-append_seam}
 use Rattle.text_line.specs.Line.{OneLine}
 use Rattle.text_line.proofs.LineBytes.{one_line, one_line_append}
 use Rattle.text_number.specs.Number.{value_of, digits_of, written_number}
-use Rattle.text_number.specs.Marked.{Marked, ends_in_mark, written_marked}
+use Rattle.text_number.specs.declared.marked.Marked.{Marked}
+use Rattle.text_number.specs.Marked.{ends_in_mark, written_marked}
 use Rattle.text_number.proofs.Digits.{digit_at, plain_digits}
 use Rattle.text_number.proofs.WrittenDigits.{digits_line, digits_plain, digits_value, digits_within_lem, value_more, written_natural, written_below, number_some}
 use Rattle.text_number.proofs.Marks.{unmarked_written, suspect_written, written_no_mark, mark_behind}

@@ -25,7 +25,8 @@ use Rattle.text_number.specs.declared.NumberError.{NumberError}
 use Rattle.text_number.specs.declared.NumberError.TheVariants as error
 use Rattle.text_number.proofs.Digits.{digit_at, plain_digits}
 use Rattle.text_number.proofs.WrittenDigits.{number_of_written}
-use Rattle.text_number.specs.Marked.{Marked, ends_in_mark, without_mark, plain_number, suspect_number, marked_in, judged_marked, written_marked, numbers_of, marks_of, first_marked, marked_by}
+use Rattle.text_number.specs.declared.marked.Marked.{Marked}
+use Rattle.text_number.specs.Marked.{ends_in_mark, without_mark, plain_number, suspect_number, marked_in, judged_marked, written_marked, numbers_of, marks_of, first_marked, marked_by}
 use Rattle.text_number.proofs.Fields.{number_between}
 use Rattle.text_number.proofs.Numbers.{number_none}
 

@@ -6,8 +6,7 @@ use Rattle.text_line.specs.Field.{Field}
 use Rattle.text_number.specs.Number.{number_in, written_number}
 use Rattle.text_number.specs.Field.{judged_number}
 use Rattle.text_number.specs.declared.NumberError.{NumberError}
--- a number, and whether it is marked suspect
-pub use Rattle.text_number.specs.declared.marked.Marked.{Marked}
+use Rattle.text_number.specs.declared.marked.Marked.{Marked}
 
 -- ---- reading
 

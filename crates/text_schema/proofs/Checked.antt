@@ -10,13 +10,13 @@ use lib.Dec.{eqb}
 use lib.IntN.{ℤ, pos, neg_ℤ, nat_abs}
 use lib.ListN.{length, take, length-append}
 use lib.Signed.{le_z, ◌≤ℤ◌}
+use Rattle.std.specs.Prelude.{Ok, Err}
+use Rattle.text_number.specs.declared.NumberError.TheVariants as error
 use Rattle.text_refusal.specs.Answer.{refusal, followed_by}
 use Rattle.text_refusal.specs.declared.refusal.Refusal.{Refusal}
-use Rattle.text_refusal.specs.declared.answer.Answer.TheVariants as answer
 use Rattle.text_line.specs.Field.{Field}
 use Rattle.text_line.specs.Line.{OneLine}
 use Rattle.text_number.specs.Field.{number_field, judged_number}
-use Rattle.text_number.specs.declared.Number.TheVariants as number
 use Rattle.text_number.specs.Number.{written_number}
 use Rattle.text_number.proofs.WrittenDigits.{number_of_written, written_within, natural_within}
 use Rattle.text_refusal.proofs.Choices.{and_left, and_right}
@@ -64,7 +64,7 @@ module _ {A : Type 0} where
 
 -- ---- the first refused line
 
-pub first_none : (line : ℕ) → first_refused line [] ≡ answer.Accepted
+pub first_none : (line : ℕ) → first_refused line [] ≡ Ok tt
 unfolding first_refused
 first_none line = refl
 
@@ -89,13 +89,13 @@ first_append line (due ∷ lines) others = go (eqb due.number 0) (first_append (
     go false again = refl
 
 -- no line is refused by the number 0
-pub first_numbered : (line : ℕ) (lines : List CheckedLine) {found : Refusal} → first_refused line lines ≡ answer.Refused found → eqb found.number 0 ≡ false
+pub first_numbered : (line : ℕ) (lines : List CheckedLine) {found : Refusal} → first_refused line lines ≡ Err found → eqb found.number 0 ≡ false
 unfolding first_refused
 first_numbered line [] {found} e = let z : ◌≡◌ {A = ℕ} 0 1 = cc in absurd (omega arith)
 first_numbered line (due ∷ lines) {found} e = go (eqb due.number 0) refl (first_numbered (suc line) lines) e
   where
-    go : (b : Bool) → eqb due.number 0 ≡ b → (first_refused (suc line) lines ≡ answer.Refused found → eqb found.number 0 ≡ false) →
-        cond b (first_refused (suc line) lines) (refusal due.number line) ≡ answer.Refused found → eqb found.number 0 ≡ false
+    go : (b : Bool) → eqb due.number 0 ≡ b → (first_refused (suc line) lines ≡ Err found → eqb found.number 0 ≡ false) →
+        cond b (first_refused (suc line) lines) (refusal due.number line) ≡ Err found → eqb found.number 0 ≡ false
     go true h again e = again e
     go false h again e = cc
 
@@ -105,17 +105,17 @@ abbrev pub Unrefused : List CheckedLine → Type 0
 Unrefused [] = Unit
 Unrefused (line ∷ lines) = (line.number ≡ 0) × Unrefused lines
 
-pub accepted_unrefused : (line : ℕ) (lines : List CheckedLine) → first_refused line lines ≡ answer.Accepted → Unrefused lines
+pub accepted_unrefused : (line : ℕ) (lines : List CheckedLine) → first_refused line lines ≡ Ok tt → Unrefused lines
 unfolding first_refused
 accepted_unrefused line [] e = tt
 accepted_unrefused line (due ∷ lines) e = go (eqb due.number 0) refl (accepted_unrefused (suc line) lines) e
   where
-    go : (b : Bool) → eqb due.number 0 ≡ b → (first_refused (suc line) lines ≡ answer.Accepted → Unrefused lines) →
-        cond b (first_refused (suc line) lines) (refusal due.number line) ≡ answer.Accepted → Unrefused (due ∷ lines)
+    go : (b : Bool) → eqb due.number 0 ≡ b → (first_refused (suc line) lines ≡ Ok tt → Unrefused lines) →
+        cond b (first_refused (suc line) lines) (refusal due.number line) ≡ Ok tt → Unrefused (due ∷ lines)
     go true h again e = (eqb-true due.number 0 h, again e)
     go false h again e = let z : ◌≡◌ {A = ℕ} 0 1 = cc in absurd (omega arith)
 
-pub unrefused_accepted : (line : ℕ) (lines : List CheckedLine) → Unrefused lines → first_refused line lines ≡ answer.Accepted
+pub unrefused_accepted : (line : ℕ) (lines : List CheckedLine) → Unrefused lines → first_refused line lines ≡ Ok tt
 unrefused_accepted line [] all = first_none line
 unrefused_accepted line (due ∷ lines) all = first_passed line due lines all.0 ∙ unrefused_accepted (suc line) lines all.1
 
@@ -140,7 +140,7 @@ pub data NumberLines : List (Field ℤ) → List ℤ → List ℤ → Type 0 whe
 pub number_checked : (key : List ℕ) (low high z : ℤ) → (checked_line (number_field key low high) z).number ≡ cond (le_z low z && le_z z high) 0 7
 number_checked key low high z = rw (number_of_written z) (go (le_z low z && le_z z high))
   where
-    go : (b : Bool) → refused_by (judged_number (cond b (number.Value z) number.Outside)) ≡ cond b 0 7
+    go : (b : Bool) → refused_by (judged_number (cond b (Ok z) (Err error.Outside))) ≡ cond b 0 7
     go true = refl
     go false = refl
 

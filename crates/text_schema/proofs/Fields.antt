@@ -7,17 +7,17 @@ use mathlib.Core.Path.{◌≡◌, refl, sym, ap, subst, ◌∙◌}
 use lib.Dec.{ltb}
 use lib.IntN.{ℤ, pos}
 use lib.ListN.{length, take, replicate, length-append, length-replicate, drop_of_length-le}
+use Rattle.std.specs.Prelude.{Result, Ok, Err}
+use Rattle.text_refusal.specs.declared.refusal.Fault.{Fault}
+use Rattle.text_number.specs.declared.NumberError.{NumberError}
+use Rattle.text_number.specs.declared.NumberError.TheVariants as error
 use Rattle.text_refusal.specs.Refusal.{fault}
 use Rattle.text_line.specs.Field.{Field, LineAnswer, got, refused, field_at}
 use Rattle.text_line.specs.Lines.{end_at}
-use Rattle.text_line.specs.declared.Lines.{Lines}
-use Rattle.text_line.specs.declared.Lines.TheVariants as lines
 use Rattle.text_line.proofs.Pieces.{computed_pieces, pieces_computed}
 use Rattle.text_line.proofs.FieldTexts.{OfLines, JudgedNumbered, LineNumbered, FieldNumbered, field_numbered}
 use Rattle.text_number.specs.Number.{number_in}
 use Rattle.text_number.specs.Field.{judged_number, number_field}
-use Rattle.text_number.specs.declared.Number.{Number}
-use Rattle.text_number.specs.declared.Number.TheVariants as number
 use Rattle.text_schema.specs.Schema.{and_then, read_fields, repeated, keys_of, number_fields, placed_fields, laid_over, LinesRead}
 use Rattle.text_schema.proofs.Readings.{reading_length}
 
@@ -95,7 +95,7 @@ pub record Keys {fields : List (Field ℤ)} (schema : Schema fields) (keys : Lis
   pub few : length (keys_of keys) ≤ length fields
 
 module _
-    {fields : List (Field ℤ)} (schema : Schema fields) (text : List ℕ) (at : ℕ) {after : List ℤ} {ended : Lines}
+    {fields : List (Field ℤ)} (schema : Schema fields) (text : List ℕ) (at : ℕ) {after : List ℤ} {ended : Result ℕ Fault}
     (read : LinesRead text at schema.keys schema.lows schema.highs (places fields) after ended) where
   pub lines_ended : ended ≡ (read_fields fields text at).end
   lines_ended = rw (← schema.same) read.ends
@@ -105,7 +105,7 @@ module _
   lines_laid = read.filled ∙ ap (λ (due : List (Field ℤ)). laid_over (read_fields due text at).values (places fields)) schema.same
 
   -- all places hold values where every line was read
-  pub lines_filled : {next : ℕ} → ended ≡ lines.Read next → after ≡ (read_fields fields text at).values
+  pub lines_filled : {next : ℕ} → ended ≡ Ok next → after ≡ (read_fields fields text at).values
   lines_filled {next} told =
       let long : length (read_fields fields text at).values ≡ length (places fields) = reading_length fields text at next (sym lines_ended ∙ told) ∙ sym (length-replicate (length fields) (pos 0)) in
       lines_laid ∙ rw (long, drop_of_length-le (places fields) {i = length (places fields)} (omega arith), append-nil)
@@ -137,9 +137,9 @@ module _ {A : Type 0} (fields : List (Field A)) where
 
 -- ---- the number of a refusal is one of 1 to 9
 
-abbrev pub LinesNumbered : Lines → Type 0
-LinesNumbered (lines.Read next) = Unit
-LinesNumbered (lines.Refused found) = OfLines found.number
+abbrev pub LinesNumbered : Result ℕ Fault → Type 0
+LinesNumbered (Ok next) = Unit
+LinesNumbered (Err found) = OfLines found.number
 
 abbrev pub FieldsNumbered : {A : Type 0} → List (Field A) → Type 0
 FieldsNumbered [] = Unit
@@ -154,10 +154,10 @@ reading_numbered {A} (field ∷ fields) n text at = go (field_at field text at) 
     go (got value next) n others = others next
     go (refused found) n others = n
 
-number_judged_numbered : (found : Number) → JudgedNumbered (judged_number found)
-number_judged_numbered (number.Value z) = tt
-number_judged_numbered number.Outside = (omega arith, omega arith)
-number_judged_numbered number.Malformed = (omega arith, omega arith)
+pub number_judged_numbered : {A : Type 0} (found : Result A NumberError) → JudgedNumbered (judged_number found)
+number_judged_numbered (Ok z) = tt
+number_judged_numbered (Err error.Outside) = (omega arith, omega arith)
+number_judged_numbered (Err error.Malformed) = (omega arith, omega arith)
 
 pub number_numbered : (key : List ℕ) (low high : ℤ) → FieldNumbered (number_field key low high)
 number_numbered key low high value = number_judged_numbered (number_in low high value)
@@ -190,6 +190,6 @@ repeated_numbered (suc n) fields each = append_numbered fields (repeated n field
 pub end_numbered : (text : List ℕ) (at : ℕ) → LinesNumbered (end_at text at)
 end_numbered text at = go (ltb at (length text))
   where
-    go : (more : Bool) → LinesNumbered (cond more (lines.Refused (fault 9 at)) (lines.Read at))
+    go : (more : Bool) → LinesNumbered (cond more (Err (fault 9 at)) (Ok at))
     go true = (omega arith, omega arith)
     go false = tt

@@ -9,7 +9,8 @@ use lib.ListN.{length, length-append}
 use lib.Signed.{le_z}
 use Rattle.text_line.specs.Field.{Field}
 use Rattle.text_number.specs.Number.{written_number}
-use Rattle.text_number.specs.Marked.{Marked, written_marked, marked_field, unmarked_field}
+use Rattle.text_number.specs.declared.marked.Marked.{Marked}
+use Rattle.text_number.specs.Marked.{written_marked, marked_field, unmarked_field}
 use Rattle.text_number.proofs.Marks.{unmarked_written, suspect_written}
 use Rattle.text_schema.specs.Checked.{CheckedLine, checked_line, checked_lines, text_of}
 use Rattle.text_schema.proofs.Checked.{text_none, text_first, checked_none, checked_no_values, checked_first, Unrefused}

@@ -7,26 +7,27 @@ use mathlib.Core.Path.{◌≡◌, refl}
 use lib.IntN.{ℤ, pos}
 use lib.ListN.{length, get_or, get_or-map}
 use lib.Signed.{le_z}
+use Rattle.std.specs.Prelude.{Result, Ok, Err}
+use Rattle.text_number.specs.declared.NumberError.{NumberError}
+use Rattle.text_number.specs.declared.NumberError.TheVariants as error
 use Rattle.integer.proofs.Order.{le_z-true}
+use Rattle.text_refusal.specs.declared.refusal.Fault.{Fault}
 use Rattle.text_line.specs.Judged.{good}
 use Rattle.text_line.specs.Line.{OneLine}
 use Rattle.text_line.specs.Field.{Field, LineAnswer, got, refused, field_at}
-use Rattle.text_line.specs.declared.Lines.TheVariants as lines
-use Rattle.text_line.proofs.FieldTexts.{JudgedNumbered, FieldNumbered, field_as}
+use Rattle.text_line.proofs.FieldTexts.{FieldNumbered, field_as}
 use Rattle.text_number.specs.Number.{number_in}
 use Rattle.text_number.specs.Field.{number_field}
-use Rattle.text_number.specs.Marked.{Marked, marked_field, unmarked_field, numbers_of, marked_by}
+use Rattle.text_number.specs.declared.marked.Marked.{Marked}
+use Rattle.text_number.specs.Marked.{marked_field, unmarked_field, numbers_of, marked_by}
 use Rattle.text_number.proofs.Marks.{plain-judged, plain_taken, mark_no_number, mark_behind, unmarked_written, suspect_written, plain_reads, suspect_reads, unmarked_between, marked_between, by_none, by_unmarked}
 use Rattle.text_number.proofs.WrittenDigits.{number_of_written}
 use Rattle.text_number.specs.Number.{written_number}
 use Rattle.text_number.specs.Marked.{plain_number, suspect_number, marked_in, judged_marked, written_marked}
-use Rattle.text_number.specs.declared.Number.{Number}
-use Rattle.text_number.specs.declared.Number.TheVariants as number
 use Rattle.text_schema.specs.Schema.{and_then, read_fields, value}
 use Rattle.text_schema.specs.Checked.{refused_by, checked_line}
+use Rattle.text_schema.proofs.Fields.{number_judged_numbered}
 use Rattle.text_schema.proofs.Readings.{Within, reading_none, reading_first, fields_read}
-use Rattle.text_number.specs.declared.marked.MarkedNumber.{MarkedNumber}
-use Rattle.text_number.specs.declared.marked.MarkedNumber.TheVariants as marked-number
 
 -- a line of a number with its mark beside the same line of a number alone: what the latter takes the former takes, without a mark
 pub record LineBeside (field : Field Marked) (plain : Field ℤ) : Type 0 where
@@ -51,10 +52,10 @@ module _ (key : List ℕ) (low high : ℤ) where
 
 -- lines that are read as numbers alone are read as the same numbers without marks
 pub plain_read :
-    {fields : List (Field Marked)} {others : List (Field ℤ)} → Beside fields others → (text : List ℕ) (at next : ℕ) → (read_fields others text at).end ≡ lines.Read next →
-    read_fields fields text at ≡ record { values = marked_by 0 (read_fields others text at).values; end = lines.Read next }
+    {fields : List (Field Marked)} {others : List (Field ℤ)} → Beside fields others → (text : List ℕ) (at next : ℕ) → (read_fields others text at).end ≡ Ok next →
+    read_fields fields text at ≡ record { values = marked_by 0 (read_fields others text at).values; end = Ok next }
 plain_read none_beside text at next e =
-    let over : lines.Read at ≡ lines.Read next = rw (reading_none {A = ℤ}) at e in
+    let over : ◌≡◌ {A = Result ℕ Fault} (Ok at) (Ok next) = rw (reading_none {A = ℤ}) at e in
     rw (reading_none {A = Marked}, reading_none {A = ℤ}, by_none 0, over)
 plain_read (one_beside {field} {plain} {fields} {others} line more) text at next e =
     rw (reading_first field fields text at, reading_first plain others text at)
@@ -62,10 +63,10 @@ plain_read (one_beside {field} {plain} {fields} {others} line more) text at next
   where
     go :
         (answer : LineAnswer ℤ) → field_at plain text at ≡ answer →
-        ((after : ℕ) → (read_fields others text after).end ≡ lines.Read next → read_fields fields text after ≡ record { values = marked_by 0 (read_fields others text after).values; end = lines.Read next }) →
-        (and_then answer (λ after. read_fields others text after)).end ≡ lines.Read next →
+        ((after : ℕ) → (read_fields others text after).end ≡ Ok next → read_fields fields text after ≡ record { values = marked_by 0 (read_fields others text after).values; end = Ok next }) →
+        (and_then answer (λ after. read_fields others text after)).end ≡ Ok next →
         and_then (field_at field text at) (λ after. read_fields fields text after) ≡
-        record { values = marked_by 0 (and_then answer (λ after. read_fields others text after)).values; end = lines.Read next }
+        record { values = marked_by 0 (and_then answer (λ after. read_fields others text after)).values; end = Ok next }
     go (got z after) h again e =
         let here = field_as plain field text at line.keys h (λ bytes r. line.takes bytes z r) in
         rw (here, by_unmarked z (read_fields others text after).values, again after e)
@@ -77,7 +78,7 @@ plain_read (one_beside {field} {plain} {fields} {others} line more) text at next
 pub marked_checked : (key : List ℕ) (low high : ℤ) (m : Marked) → (checked_line (marked_field key low high) m).number ≡ cond (le_z low m.number && le_z m.number high) 0 7
 marked_checked key low high m = go m.suspect m.number
   where
-    judge : (b : Bool) (z : ℤ) (given : Number → MarkedNumber) → refused_by (judged_marked (given (number.Value z))) ≡ 0 → refused_by (judged_marked (given number.Outside)) ≡ 7 → refused_by (judged_marked (given (cond b (number.Value z) number.Outside))) ≡ cond b 0 7
+    judge : (b : Bool) (z : ℤ) (given : Result ℤ NumberError → Result Marked NumberError) → refused_by (judged_marked (given (Ok z))) ≡ 0 → refused_by (judged_marked (given (Err error.Outside))) ≡ 7 → refused_by (judged_marked (given (cond b (Ok z) (Err error.Outside)))) ≡ cond b 0 7
     judge true z given fine out = fine
     judge false z given fine out = out
 
@@ -88,7 +89,7 @@ marked_checked key low high m = go m.suspect m.number
 pub unmarked_checked : (key : List ℕ) (low high : ℤ) (m : Marked) → (checked_line (unmarked_field key low high) m).number ≡ cond m.suspect 6 (cond (le_z low m.number && le_z m.number high) 0 7)
 unmarked_checked key low high m = go m.suspect m.number
   where
-    judge : (b : Bool) (z : ℤ) → refused_by (judged_marked (plain_number (cond b (number.Value z) number.Outside))) ≡ cond b 0 7
+    judge : (b : Bool) (z : ℤ) → refused_by (judged_marked (plain_number (cond b (Ok z) (Err error.Outside)))) ≡ cond b 0 7
     judge true z = refl
     judge false z = refl
 
@@ -102,7 +103,7 @@ unmarked_checked key low high m = go m.suspect m.number
 abbrev pub no_marked : Marked
 no_marked = record { number = pos 0; suspect = false }
 
-module _ (fields : List (Field Marked)) (text : List ℕ) (at next : ℕ) (e : (read_fields fields text at).end ≡ lines.Read next) (place : ℕ) (h : place < length fields) (key : List ℕ) (low high : ℤ) where
+module _ (fields : List (Field Marked)) (text : List ℕ) (at next : ℕ) (e : (read_fields fields text at).end ≡ Ok next) (place : ℕ) (h : place < length fields) (key : List ℕ) (low high : ℤ) where
   -- lies within the bounds of its field
   pub marked_at : get_or fields place (marked_field key low high) ≡ marked_field key low high → Within low high (value (numbers_of (read_fields fields text at).values) place)
   marked_at is =
@@ -118,17 +119,11 @@ module _ (fields : List (Field Marked)) (text : List ℕ) (at next : ℕ) (e : (
 
 -- ---- the number of a refusal is one of 1 to 9
 
-judged_numbered : (n : MarkedNumber) → JudgedNumbered (judged_marked n)
-judged_numbered (marked-number.Plain z) = tt
-judged_numbered (marked-number.Suspect z) = tt
-judged_numbered marked-number.Outside = (omega arith, omega arith)
-judged_numbered marked-number.Malformed = (omega arith, omega arith)
-
 pub marked_numbered : (key : List ℕ) (low high : ℤ) → FieldNumbered (marked_field key low high)
-marked_numbered key low high value = judged_numbered (marked_in low high value)
+marked_numbered key low high value = number_judged_numbered (marked_in low high value)
 
 pub unmarked_numbered : (key : List ℕ) (low high : ℤ) → FieldNumbered (unmarked_field key low high)
-unmarked_numbered key low high value = judged_numbered (plain_number (number_in low high value))
+unmarked_numbered key low high value = number_judged_numbered (plain_number (number_in low high value))
 
 -- ---- lines each of which may be marked
 

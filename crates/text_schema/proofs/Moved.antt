@@ -4,15 +4,15 @@ use Prim.Native.Nat.{ℕ, ◌+◌, ◌≤◌}
 use mathlib.Core.List.{List, [], ◌∷◌}
 use mathlib.Core.Path.{◌≡◌, refl}
 use lib.ListN.{length, drop}
+use Rattle.std.specs.Prelude.{Result, Ok, Err}
+use Rattle.text_refusal.specs.declared.refusal.Fault.{Fault}
 use Rattle.text_line.specs.Field.{Field, LineAnswer, got, refused, field_at}
-use Rattle.text_line.specs.declared.Lines.{Lines}
-use Rattle.text_line.specs.declared.Lines.TheVariants as lines
 use Rattle.text_line.proofs.FieldTexts.{moved_fault, moved_answer, answer_position, field_moved, field_position}
 use Rattle.text_schema.specs.Schema.{Reading, and_then, read_fields}
 
-abbrev pub moved_lines : ℕ → Lines → Lines
-moved_lines k (lines.Read next) = lines.Read (k + next)
-moved_lines k (lines.Refused found) = lines.Refused (moved_fault k found)
+abbrev pub moved_lines : ℕ → Result ℕ Fault → Result ℕ Fault
+moved_lines k (Ok next) = Ok (k + next)
+moved_lines k (Err found) = Err (moved_fault k found)
 
 abbrev pub moved_reading : {A : Type 0} → ℕ → Reading A → Reading A
 moved_reading k reading = record { values = reading.values; end = moved_lines k reading.end }
@@ -29,9 +29,9 @@ reading_moved {A} (field ∷ fields) text k at = rw field_moved (go (field_at fi
     go (refused found) again = refl
 
 -- where reading goes on, or the refused line starts
-abbrev pub lines_position : Lines → ℕ
-lines_position (lines.Read next) = next
-lines_position (lines.Refused found) = found.at
+abbrev pub lines_position : Result ℕ Fault → ℕ
+lines_position (Ok next) = next
+lines_position (Err found) = found.at
 
 pub reading_within : (text : List ℕ) {A : Type 0} (fields : List (Field A)) (at : ℕ) → at ≤ length text → lines_position (read_fields fields text at).end ≤ length text
 unfolding read_fields

@@ -9,13 +9,13 @@ use lib.IntN.{ℤ, pos, nat_abs}
 use lib.Signed.{◌≤ℤ◌}
 use lib.ListN.{length, get_or, drop_of_length-le, get_or-eq_default}
 use borrow.Author.Tests.{leb-true, leb-false}
+use Rattle.std.specs.Prelude.{Result, Ok, Err}
+use Rattle.text_refusal.specs.declared.refusal.Fault.{Fault}
 use Rattle.integer.proofs.Difference.{view, to_ℕ}
 use Rattle.integer.proofs.Order.{le_z-true}
 use Rattle.text_refusal.proofs.Choices.{and_left, and_right}
 use Rattle.text_line.specs.Judged.{good}
 use Rattle.text_line.specs.Field.{Field, LineAnswer, got, refused, field_at}
-use Rattle.text_line.specs.declared.Lines.{Lines}
-use Rattle.text_line.specs.declared.Lines.TheVariants as lines
 use Rattle.text_line.proofs.FieldTexts.{field_read}
 use Rattle.text_number.specs.Field.{number_field}
 use Rattle.text_number.proofs.Fields.{number_between}
@@ -25,13 +25,13 @@ use Rattle.text_schema.specs.Schema.{Reading, and_then, read_fields, number_fiel
 abbrev pub reading_then : {A : Type 0} → Reading A → (ℕ → Reading A) → Reading A
 reading_then {A} reading others = go reading.end
   where
-    go : Lines → Reading A
-    go (lines.Read next) = record { values = reading.values ++ (others next).values; end = (others next).end }
-    go (lines.Refused found) = reading
+    go : Result ℕ Fault → Reading A
+    go (Ok next) = record { values = reading.values ++ (others next).values; end = (others next).end }
+    go (Err found) = reading
 
 module _ {A : Type 0} where
   -- no line is due, and one line and then the others
-  pub reading_none : (text : List ℕ) (at : ℕ) → read_fields {A = A} [] text at ≡ record { values = []; end = lines.Read at }
+  pub reading_none : (text : List ℕ) (at : ℕ) → read_fields {A = A} [] text at ≡ record { values = []; end = Ok at }
   unfolding read_fields
   reading_none text at = refl
 
@@ -49,9 +49,9 @@ module _ {A : Type 0} where
       then : (value : A) (reading : Reading A) → record { values = value ∷ (reading_then reading (λ next. read_fields others text next)).values; end = (reading_then reading (λ next. read_fields others text next)).end } ≡ reading_then (record { values = value ∷ reading.values; end = reading.end }) (λ next. read_fields others text next)
       then value reading = go reading.end refl
         where
-          go : (end : Lines) → reading.end ≡ end → record { values = value ∷ (reading_then reading (λ next. read_fields others text next)).values; end = (reading_then reading (λ next. read_fields others text next)).end } ≡ reading_then (record { values = value ∷ reading.values; end = reading.end }) (λ next. read_fields others text next)
-          go (lines.Read next) e = rw e
-          go (lines.Refused found) e = rw e
+          go : (end : Result ℕ Fault) → reading.end ≡ end → record { values = value ∷ (reading_then reading (λ next. read_fields others text next)).values; end = (reading_then reading (λ next. read_fields others text next)).end } ≡ reading_then (record { values = value ∷ reading.values; end = reading.end }) (λ next. read_fields others text next)
+          go (Ok next) e = rw e
+          go (Err found) e = rw e
 
       go :
           (answer : LineAnswer A) → ((at : ℕ) → read_fields (fields ++ others) text at ≡ reading_then (read_fields fields text at) (λ next. read_fields others text next)) →
@@ -59,14 +59,14 @@ module _ {A : Type 0} where
       go (got value next) again = rw (again next) (then value (read_fields fields text next))
       go (refused found) again = refl
 
-  pub reading_length : (fields : List (Field A)) (text : List ℕ) (at next : ℕ) → (read_fields fields text at).end ≡ lines.Read next → length (read_fields fields text at).values ≡ length fields
+  pub reading_length : (fields : List (Field A)) (text : List ℕ) (at next : ℕ) → (read_fields fields text at).end ≡ Ok next → length (read_fields fields text at).values ≡ length fields
   unfolding read_fields
   reading_length [] text at next e = refl
   reading_length (field ∷ fields) text at next e = go (field_at field text at) (λ at. reading_length fields text at next) e
     where
       go :
-          (answer : LineAnswer A) → ((at : ℕ) → (read_fields fields text at).end ≡ lines.Read next → length (read_fields fields text at).values ≡ length fields) →
-          (and_then answer (λ next. read_fields fields text next)).end ≡ lines.Read next → length (and_then answer (λ next. read_fields fields text next)).values ≡ suc (length fields)
+          (answer : LineAnswer A) → ((at : ℕ) → (read_fields fields text at).end ≡ Ok next → length (read_fields fields text at).values ≡ length fields) →
+          (and_then answer (λ next. read_fields fields text next)).end ≡ Ok next → length (and_then answer (λ next. read_fields fields text next)).values ≡ suc (length fields)
       go (got value after) again e = ap suc (again after e)
       go (refused found) again e = let z : ◌≡◌ {A = ℕ} 0 1 = cc in absurd (omega arith)
 
@@ -77,7 +77,7 @@ module _ {A : Type 0} where
 
   abbrev pub EachRead : Field A → A → List (Field A) → Reading A → Type 0
   EachRead f v fields reading =
-      (next : ℕ) → reading.end ≡ lines.Read next → (i : ℕ) → i < length fields → ReadBy (get_or fields i f) (get_or reading.values i v)
+      (next : ℕ) → reading.end ≡ Ok next → (i : ℕ) → i < length fields → ReadBy (get_or fields i f) (get_or reading.values i v)
 
   pub fields_read : (f : Field A) (v : A) (fields : List (Field A)) (text : List ℕ) (at : ℕ) → EachRead f v fields (read_fields fields text at)
   unfolding read_fields
@@ -108,13 +108,13 @@ module _ {A : Type 0} where
 
 -- lines read into as many places as there are lines
 module _
-    {text : List ℕ} {at : ℕ} {keys : List ℕ} {lows highs places after : List ℤ} {ended : Lines} (fields : List (Field ℤ))
+    {text : List ℕ} {at : ℕ} {keys : List ℕ} {lows highs places after : List ℤ} {ended : Result ℕ Fault} (fields : List (Field ℤ))
     (schema : placed_fields keys lows highs places ≡ fields) (full : length fields ≡ length places)
     (read : LinesRead text at keys lows highs places after ended) where
   pub lines_ends : ended ≡ (read_fields fields text at).end
   lines_ends = rw (← schema) read.ends
 
-  pub lines_values : (next : ℕ) → ended ≡ lines.Read next → after ≡ (read_fields fields text at).values
+  pub lines_values : (next : ℕ) → ended ≡ Ok next → after ≡ (read_fields fields text at).values
   lines_values next e =
       let long : length (read_fields fields text at).values ≡ length places = reading_length fields text at next (sym lines_ends ∙ e) ∙ full in
       let filled : after ≡ laid_over (read_fields fields text at).values places = rw (← schema) read.filled in
@@ -124,7 +124,7 @@ abbrev pub Within : ℤ → ℤ → ℤ → Type 0
 Within low high z = (low ≤ℤ z) × (z ≤ℤ high)
 
 pub values_within :
-    (keys : List (List ℕ)) (lows highs : List ℤ) (text : List ℕ) (at next : ℕ) → (read_fields (number_fields keys lows highs) text at).end ≡ lines.Read next →
+    (keys : List (List ℕ)) (lows highs : List ℤ) (text : List ℕ) (at next : ℕ) → (read_fields (number_fields keys lows highs) text at).end ≡ Ok next →
     (place : ℕ) → place < length (number_fields keys lows highs) →
     Within (value lows place) (value highs place) (value (read_fields (number_fields keys lows highs) text at).values place)
 unfolding read_fields number_fields
@@ -136,9 +136,9 @@ values_within (key ∷ keys) (low ∷ lows) (high ∷ highs) text at next e plac
   where
     go :
         (answer : LineAnswer ℤ) → field_at (number_field key low high) text at ≡ answer →
-        ((at : ℕ) → (read_fields (number_fields keys lows highs) text at).end ≡ lines.Read next → (place : ℕ) → place < length (number_fields keys lows highs) →
+        ((at : ℕ) → (read_fields (number_fields keys lows highs) text at).end ≡ Ok next → (place : ℕ) → place < length (number_fields keys lows highs) →
         Within (value lows place) (value highs place) (value (read_fields (number_fields keys lows highs) text at).values place)) →
-        (and_then answer (λ next. read_fields (number_fields keys lows highs) text next)).end ≡ lines.Read next →
+        (and_then answer (λ next. read_fields (number_fields keys lows highs) text next)).end ≡ Ok next →
         (place : ℕ) → place < suc (length (number_fields keys lows highs)) →
         Within (value (low ∷ lows) place) (value (high ∷ highs) place) (value (and_then answer (λ next. read_fields (number_fields keys lows highs) text next)).values place)
     go (got z after) found again e zero h =
@@ -149,7 +149,7 @@ values_within (key ∷ keys) (low ∷ lows) (high ∷ highs) text at next e plac
     go (refused fault) found again e place h = let z : ◌≡◌ {A = ℕ} 0 1 = cc in absurd (omega arith)
 
 -- the number at a place of lines that were read lies within the bounds of its field
-pub number_at : (fields : List (Field ℤ)) (text : List ℕ) (at next : ℕ) → (read_fields fields text at).end ≡ lines.Read next → (place : ℕ) → place < length fields → (key : List ℕ) (low high : ℤ) → get_or fields place (number_field key low high) ≡ number_field key low high → Within low high (value (read_fields fields text at).values place)
+pub number_at : (fields : List (Field ℤ)) (text : List ℕ) (at next : ℕ) → (read_fields fields text at).end ≡ Ok next → (place : ℕ) → place < length fields → (key : List ℕ) (low high : ℤ) → get_or fields place (number_field key low high) ≡ number_field key low high → Within low high (value (read_fields fields text at).values place)
 number_at fields text at next e place h key low high is =
     let read = fields_read (number_field key low high) (pos 0) fields text at next e place h in
     let reads : (number_field key low high).read read.bytes ≡ good (value (read_fields fields text at).values place) = rw is at read.reads in
@@ -171,7 +171,7 @@ between low high z bound = rw (view low, view high, view z) (simp to_ℕ (omega 
 
 pub values_bounded :
     (bound : ℕ) (keys : List (List ℕ)) (lows highs : List ℤ) → all_bounded bound lows ≡ true → all_bounded bound highs ≡ true →
-    (text : List ℕ) (at next : ℕ) → (read_fields (number_fields keys lows highs) text at).end ≡ lines.Read next →
+    (text : List ℕ) (at next : ℕ) → (read_fields (number_fields keys lows highs) text at).end ≡ Ok next →
     (place : ℕ) → nat_abs (value (read_fields (number_fields keys lows highs) text at).values place) ≤ bound
 values_bounded bound keys lows highs l h text at next e place = go (leb (suc place) (length (number_fields keys lows highs))) refl
   where

@@ -11,16 +11,15 @@ use lib.IntN.{ℤ, pos}
 use lib.ListN.{length, take, drop, get_or, set, drop_of_length-le, length-append, length-set}
 use lib.Seq.{take-nil, drop-cons, set_at}
 use borrow.Author.Tests.{leb-true, leb-false}
+use Rattle.std.specs.Prelude.{Result, Ok, Err}
+use Rattle.text_number.specs.declared.NumberError.{NumberError}
 use Rattle.text_refusal.specs.declared.refusal.Fault.{Fault}
 use Rattle.text_line.specs.Line.{value_at, value_fault}
 use Rattle.text_line.specs.Piece.{part, piece_length}
 use Rattle.text_line.specs.Field.{Field, LineAnswer, got, refused, next_at, field_at}
-use Rattle.text_line.specs.declared.Lines.TheVariants as lines
 use Rattle.text_line.proofs.Pieces.{piece_none, piece_next}
 use Rattle.text_number.specs.Number.{number_in, number_refusal}
 use Rattle.text_number.specs.Field.{number_field}
-use Rattle.text_number.specs.declared.Number.{Number}
-use Rattle.text_number.specs.declared.Number.TheVariants as number
 use Rattle.text_number.proofs.Fields.{number_got, number_within, number_refused}
 use Rattle.text_schema.specs.Schema.{Reading, value, and_then, read_fields, number_fields, keys_of, placed_fields, LinesRead}
 
@@ -78,12 +77,12 @@ lines_start text at keys lows highs places = record { values = []; counted = ref
 module _
     {text : List ℕ} {at : ℕ} {keys : List ℕ} {lows highs places out : List ℤ} {next from i : ℕ}
     (so_far : LinesFrom text at keys lows highs places out next from i) where
-  lines_over : take (length places - i) (fields_from keys lows highs from i) ≡ [] → LinesRead text at keys lows highs places out (lines.Read next)
+  lines_over : take (length places - i) (fields_from keys lows highs from i) ≡ [] → LinesRead text at keys lows highs places out (Ok next)
   unfolding read_fields
   lines_over e = record { ends = rw (so_far.rest, e); filled = rw (so_far.rest, e, append-nil, so_far.counted) so_far.laid }
 
   -- the places, the lower or the upper bounds have run out
-  pub lines_full : min (length places) (min (length lows) (length highs)) ≤ i → LinesRead text at keys lows highs places out (lines.Read next)
+  pub lines_full : min (length places) (min (length lows) (length highs)) ≤ i → LinesRead text at keys lows highs places out (Ok next)
   lines_full h = lines_over (go (leb (length places) i) refl (leb (length lows) i) refl)
     where
       go :
@@ -94,12 +93,12 @@ module _
           rw (fields_highs keys lows highs from i (omega (arith, leb-false (length places) i p, leb-false (length lows) i e)), take-nil)
 
   module _ {end : ℕ} (ends : end ≡ from + piece_length 61 (drop from keys)) where
-    pub lines_keys : end ≡ from → LinesRead text at keys lows highs places out (lines.Read next)
+    pub lines_keys : end ≡ from → LinesRead text at keys lows highs places out (Ok next)
     lines_keys e = lines_over (rw (fields_keys keys lows highs from i end ends e, take-nil))
 
     -- one more line is due, and its value is read as a number within its bounds
     module _
-        {key bytes : List ℕ} {n : Number} (some : end ≡ from → ⊥) (left : i < min (length places) (min (length lows) (length highs)))
+        {key bytes : List ℕ} {n : Result ℤ NumberError} (some : end ≡ from → ⊥) (left : i < min (length places) (min (length lows) (length highs)))
         (key_is : key ≡ part keys from end) (bytes_are : bytes ≡ value_at key text next) (is : n ≡ number_in (value lows i) (value highs i) bytes) where
       due :
           (answer : LineAnswer ℤ) → answer ≡ field_at (number_field key (value lows i) (value highs i)) text next →
@@ -110,13 +109,13 @@ module _
           let e : length places - i ≡ suc (length places - (i + 1)) = omega arith in
           rw (so_far.rest, fields_next keys lows highs from i end ends some (omega arith) (omega arith), e, answers, key_is)
 
-      pub lines_refused : ((z : ℤ) → n ≡ number.Value z → ⊥) → {k : ℕ} → k ≡ number_refusal n → {found : Fault} → found ≡ value_fault key text next k → LinesRead text at keys lows highs places out (lines.Refused found)
+      pub lines_refused : ((z : ℤ) → n ≡ Ok z → ⊥) → {k : ℕ} → k ≡ number_refusal n → {found : Fault} → found ≡ value_fault key text next k → LinesRead text at keys lows highs places out (Err found)
       lines_refused not_taken {k} refusal_is {found} fault_is =
           let told : refused found ≡ field_at (number_field key (value lows i) (value highs i)) text next = rw (fault_is, refusal_is) (number_refused key text next (value lows i) (value highs i) bytes_are is not_taken) in
           let all = due (refused found) told in
           record { ends = rw all; filled = rw (all, append-nil, so_far.counted) so_far.laid }
 
-      module _ {z : ℤ} (told : n ≡ number.Value z) where
+      module _ {z : ℤ} (told : n ≡ Ok z) where
         pub lines_within : next_at next key bytes ≤ length text
         lines_within = number_within key text next (value lows i) (value highs i) bytes_are is told
 

@@ -1,8 +1,6 @@
 -- Writing values that may be any: each line as it is written, and the number by which a reader of its kind refuses it.
-use Rattle.std.specs.Prelude.{ℕ, suc, cond, List, [], ◌∷◌, ◌++◌, eqb}
-use Rattle.text_refusal.specs.Answer.{refusal}
-use Rattle.text_refusal.specs.declared.answer.Answer.{Answer}
-use Rattle.text_refusal.specs.declared.answer.Answer.TheVariants as answer
+use Rattle.std.specs.Prelude.{ℕ, suc, cond, List, [], ◌∷◌, ◌++◌, eqb, Ok}
+use Rattle.text_refusal.specs.Answer.{Answer, refusal}
 use Rattle.text_line.specs.Judged.{Judged, good, bad}
 use Rattle.text_line.specs.Field.{Field}
 
@@ -36,5 +34,5 @@ text_of (line ∷ lines) = line.bytes ++ text_of lines
 
 -- the first refused of some lines, by its number and its line, `line` being that of the first of them
 unfoldable pub first_refused : ℕ → List CheckedLine → Answer
-first_refused line [] = answer.Accepted
+first_refused line [] = Ok tt
 first_refused line (due ∷ lines) = cond (eqb due.number 0) (first_refused (suc line) lines) (refusal due.number line)

@@ -1,23 +1,22 @@
 -- Lines by a schema, over any kind of value: reading line after line, and writing.
-use Rattle.std.specs.Prelude.{ℕ, zero, suc, ◌≡◌, List, [], ◌∷◌, ◌++◌, ℤ, pos, length, get_or, take, drop}
+use Rattle.text_refusal.specs.declared.refusal.Fault.{Fault}
+use Rattle.std.specs.Prelude.{ℕ, zero, suc, ◌≡◌, List, [], ◌∷◌, ◌++◌, ℤ, pos, length, get_or, take, drop, Result, Ok, Err}
 use Rattle.text_line.specs.Piece.{pieces_of}
 use Rattle.text_line.specs.Field.{Field, LineAnswer, got, refused, field_at}
-use Rattle.text_line.specs.declared.Lines.{Lines}
-use Rattle.text_line.specs.declared.Lines.TheVariants as lines
 use Rattle.text_number.specs.Field.{number_field}
 
 -- the values read, and how reading ended: after the last line, or at the first refused one
 pub record Reading (A : Type 0) : Type 0 where
   pub values : List A
-  pub end : Lines
+  pub end : Result ℕ Fault
 
 abbrev pub and_then : {A : Type 0} → LineAnswer A → (ℕ → Reading A) → Reading A
 and_then (got value next) others = record { values = value ∷ (others next).values; end = (others next).end }
-and_then (refused found) others = record { values = []; end = lines.Refused found }
+and_then (refused found) others = record { values = []; end = Err found }
 
 -- lines in fixed order, each checked before the next
 unfoldable pub read_fields : {A : Type 0} → List (Field A) → List ℕ → ℕ → Reading A
-read_fields [] text at = record { values = []; end = lines.Read at }
+read_fields [] text at = record { values = []; end = Ok at }
 read_fields (field ∷ fields) text at = and_then (field_at field text at) (λ next. read_fields fields text next)
 
 -- a line is its key with `=`, the value, byte 10
@@ -57,6 +56,6 @@ abbrev pub placed_fields : List ℕ → List ℤ → List ℤ → List ℤ → L
 placed_fields keys lows highs places = take (length places) (number_fields (keys_of keys) lows highs)
 
 -- what reading lines into places gives: how it ended, and the values read laid over the first places
-pub record LinesRead (text : List ℕ) (at : ℕ) (keys : List ℕ) (lows highs places after : List ℤ) (ended : Lines) : Type 0 where
+pub record LinesRead (text : List ℕ) (at : ℕ) (keys : List ℕ) (lows highs places after : List ℤ) (ended : Result ℕ Fault) : Type 0 where
   pub ends : ended ≡ (read_fields (placed_fields keys lows highs places) text at).end
   pub filled : after ≡ laid_over (read_fields (placed_fields keys lows highs places) text at).values places

@@ -29,19 +29,19 @@ returns-then-end-from c = lines_keys c.loop-i.invariant c.piece_end-end.ensures 
 pub returns-in_default : goal.returns-in_default
 returns-in_default c =
     let n = (goal.at.returns-in_default c).After-number_of-n in
-    lines_refused c.loop-i.invariant c.piece_end-end.ensures c.if-end-from.false (left n) c.part-key.ensures c.line_value-value.ensures (is_number n) c.in_default.not-Value c.number_refusal.ensures c.value_fault.ensures
+    lines_refused c.loop-i.invariant c.piece_end-end.ensures c.if-end-from.false (left n) c.part-key.ensures c.line_value-value.ensures (is_number n) c.in_default.not-Ok c.number_refusal.ensures c.value_fault.ensures
 
 pub overflow_add-next-in-loop-i-2 : goal.overflow_add-next-in-loop-i-2
 overflow_add-next-in-loop-i-2 c =
     let n = (goal.at.overflow_add-next-in-loop-i-2 c).After-number_of-n in
-    omega (arith, lines_within c.loop-i.invariant c.piece_end-end.ensures c.if-end-from.false (left n) c.part-key.ensures c.line_value-value.ensures (is_number n) c.in-Value.is)
+    omega (arith, lines_within c.loop-i.invariant c.piece_end-end.ensures c.if-end-from.false (left n) c.part-key.ensures c.line_value-value.ensures (is_number n) c.in-Ok.is)
 
 pub loop-i-preserved : goal.loop-i-preserved
 loop-i-preserved c =
     let n = (goal.at.loop-i-preserved c).After-number_of-n in
-    let fits : SFits w64 c.in-Value.z = search rules in
+    let fits : SFits w64 c.in-Ok.z = search rules in
     rw (to_z-of_z fits)
-    (lines_more c.loop-i.invariant c.piece_end-end.ensures c.if-end-from.false (left n) c.part-key.ensures c.line_value-value.ensures (is_number n) c.in-Value.is (omega arith))
+    (lines_more c.loop-i.invariant c.piece_end-end.ensures c.if-end-from.false (left n) c.part-key.ensures c.line_value-value.ensures (is_number n) c.in-Ok.is (omega arith))
 
 pub returns : goal.returns
 returns c = lines_full c.loop-i.invariant (omega arith)
