@@ -15,7 +15,8 @@ use Rattle.text_line.specs.Field.{Field}
 use Rattle.text_line.specs.Piece.{part, piece_length}
 use Rattle.text_line.proofs.Pieces.{piece_none, piece_next, piece_fits}
 use Rattle.text_number.specs.Number.{written_number}
-use Rattle.text_number.specs.Marked.{Marked, written_marked, marked_field, unmarked_field, first_marked, marked_by}
+use Rattle.text_number.specs.declared.marked.Marked.{Marked}
+use Rattle.text_number.specs.Marked.{written_marked, marked_field, unmarked_field, first_marked, marked_by}
 use Rattle.text_number.proofs.Marks.{unmarked_written, suspect_written, by_none, by_first, by_unmarked}
 use Rattle.text_schema.specs.Schema.{keys_of}
 use Rattle.text_schema.specs.Checked.{checked_line, checked_lines, text_of}

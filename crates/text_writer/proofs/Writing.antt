@@ -15,8 +15,7 @@ use Rattle.integer.proofs.Order.{lt_z-true, lt_z-false}
 use Rattle.text_number.specs.Number.{digits_of, written_number}
 use Rattle.text_writer.specs.internal.Signed.{sign_of, signed, signed_line, cut_to}
 use Rattle.text_writer.specs.Write.{laid_at, written_line, written_numbers, TextLaid, TextWritten}
-use Rattle.text_writer.specs.declared.Written.{Written}
-use Rattle.text_writer.specs.declared.Written.TheVariants as written
+use Rattle.std.specs.Prelude.{Option, Some, None}
 use Rattle.text_number.proofs.WrittenDigits.{digits_one, digits_more, written_natural, written_below}
 use Rattle.text_writer.proofs.Laid.{laid_none, laid_behind, laid_ahead, laid_less}
 
@@ -157,18 +156,18 @@ first_line key keys z values = refl
 
 -- ---- what writing gives
 
-pub text_short : (text buffer : List ℕ) (at : ℕ) → length buffer < at + length text → TextWritten text buffer at buffer written.Short
+pub text_short : (text buffer : List ℕ) (at : ℕ) → length buffer < at + length text → TextWritten text buffer at buffer None
 text_short text buffer at h = let e = lt-leb (at + length text) (length buffer) h in record { ends = rw e; bytes = rw e }
 
-pub text_stands : {text buffer : List ℕ} {at : ℕ} {after : List ℕ} {next : ℕ} → TextLaid text buffer at after next → at + length text ≤ length buffer → TextWritten text buffer at after (written.Ended next)
+pub text_stands : {text buffer : List ℕ} {at : ℕ} {after : List ℕ} {next : ℕ} → TextLaid text buffer at after next → at + length text ≤ length buffer → TextWritten text buffer at after (Some next)
 text_stands {text} {buffer} {at} laid room = let e = le-leb (at + length text) (length buffer) room in record { ends = rw (e, laid.ends); bytes = rw e laid.bytes }
 
 -- what stands in a buffer that has room for the text
-pub written_bytes : {text buffer : List ℕ} {at : ℕ} {after : List ℕ} {ended : Written} → TextWritten text buffer at after ended → at + length text ≤ length buffer → after ≡ laid_at buffer at text
+pub written_bytes : {text buffer : List ℕ} {at : ℕ} {after : List ℕ} {ended : Option ℕ} → TextWritten text buffer at after ended → at + length text ≤ length buffer → after ≡ laid_at buffer at text
 written_bytes {text} {buffer} {at} done room = done.bytes ∙ rw (le-leb (at + length text) (length buffer) room)
 
 -- bytes after the text stay, whether it was written or not: a program that lays one byte more does not meet its contract
-pub bytes_after_stay : {text buffer : List ℕ} {at : ℕ} {after : List ℕ} {ended : Written} → TextWritten text buffer at after ended → (k : ℕ) → drop (at + length text + k) after ≡ drop (at + length text + k) buffer
+pub bytes_after_stay : {text buffer : List ℕ} {at : ℕ} {after : List ℕ} {ended : Option ℕ} → TextWritten text buffer at after ended → (k : ℕ) → drop (at + length text + k) after ≡ drop (at + length text + k) buffer
 bytes_after_stay {text} {buffer} {at} {after} done k = go (leb (at + length text) (length buffer)) refl done.bytes
   where
     go : (b : Bool) → leb (at + length text) (length buffer) ≡ b → after ≡ cond b (laid_at buffer at text) buffer → drop (at + length text + k) after ≡ drop (at + length text + k) buffer
@@ -176,7 +175,7 @@ bytes_after_stay {text} {buffer} {at} {after} done k = go (leb (at + length text
     go false e is = rw is
 
 -- and those before it
-pub bytes_before_stay : {text buffer : List ℕ} {at : ℕ} {after : List ℕ} {ended : Written} → TextWritten text buffer at after ended → take at after ≡ take at buffer
+pub bytes_before_stay : {text buffer : List ℕ} {at : ℕ} {after : List ℕ} {ended : Option ℕ} → TextWritten text buffer at after ended → take at after ≡ take at buffer
 bytes_before_stay {text} {buffer} {at} {after} done = go (leb (at + length text) (length buffer)) refl done.bytes
   where
     go : (b : Bool) → leb (at + length text) (length buffer) ≡ b → after ≡ cond b (laid_at buffer at text) buffer → take at after ≡ take at buffer

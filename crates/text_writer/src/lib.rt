@@ -1,4 +1,5 @@
-// Writing into a lent buffer: the length is known before a byte is written, and bytes after the text stay.
+// Writing into a lent buffer: the length is known before a byte is written, and bytes after the text stay. What writing gives is where the next byte stands, or None
+// where the buffer is shorter than the text (14).
 #![tactic(auto)]
 
 ghost use Rattle.std.specs.Prelude.{◌≡◌, ◌≤◌, ◌+◌, ◌-◌, length};
@@ -14,13 +15,6 @@ pub mod marked;
 pub mod output;
 mod room;
 pub mod row;
-
-// How writing ended: the text stands and ends before next, or the buffer is shorter than the text (14).
-#[derive(Clone, Copy)]
-pub enum Written {
-    Ended { next: usize },
-    Short,
-}
 
 // How many digits a number has, four at a time: most numbers need one division or none, and no test that is hard to foresee.
 #[tactic(auto, using(text_number::proofs::WrittenDigits::count_bound, crate::proofs::DigitCount::one_at_most))]
@@ -106,7 +100,7 @@ fn put_line(buffer: &mut [u8], at: usize, key: &[u8], negative: bool, n: u64) ->
 
 // The text of the values under their keys, at a position of a lent buffer: lines of which no number is marked.
 #[tactic(auto, using(crate::proofs::MarkedLines::lines_unmarked))]
-pub fn write_lines(buffer: &mut [u8], at: usize, keys: &[u8], values: &[i64]) -> Written
+pub fn write_lines(buffer: &mut [u8], at: usize, keys: &[u8], values: &[i64]) -> Option<usize>
     ensures { LinesWritten keys.now values.now buffer.old at buffer.new result }
 {
     write_marked_lines(buffer, at, keys, values, 0)

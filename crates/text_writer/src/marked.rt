@@ -7,7 +7,7 @@ ghost use Rattle.text_writer.specs.internal.Keys.{first_key, WholeKeys};
 ghost use Rattle.text_writer.specs.Write.{written_marked_lines, TextLaid, TextWritten};
 
 use crate::room::lines_fit;
-use crate::{Written, put_bytes, put_value};
+use crate::{put_bytes, put_value};
 use integer::magnitude;
 
 // The keys up to the last `=`: what follows it is no key.
@@ -76,15 +76,12 @@ pub fn write_marked_lines(
     keys: &[u8],
     values: &[i64],
     marks: u64,
-) -> Written
+) -> Option<usize>
     ensures { TextWritten (written_marked_lines (keys_of keys.now) (marked_by marks values.now)) buffer.old at buffer.new result }
 {
-    if buffer.len() < at {
-        return Written::Short;
+    let room = buffer.len().checked_sub(at)?;
+    if !lines_fit(keys, values, marks, room) {
+        return None;
     }
-    if lines_fit(keys, values, marks, buffer.len() - at) {
-        let next = put_lines(buffer, at, whole_keys(keys), values, marks);
-        return Written::Ended { next };
-    }
-    Written::Short
+    Some(put_lines(buffer, at, whole_keys(keys), values, marks))
 }

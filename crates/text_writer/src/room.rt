@@ -46,8 +46,5 @@ fn counted_lines_fit(keys: &[u8], values: &[i64], mut marks: u64, mut room: usiz
 pub(crate) fn lines_fit(keys: &[u8], values: &[i64], marks: u64, room: usize) -> bool
     ensures { result ≡ leb (length (written_marked_lines (keys_of keys.now) (marked_by marks values.now))) room }
 {
-    if short_lines_fit(keys, values, room) {
-        return true;
-    }
-    counted_lines_fit(keys, values, marks, room)
+    short_lines_fit(keys, values, room) || counted_lines_fit(keys, values, marks, room)
 }

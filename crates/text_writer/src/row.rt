@@ -3,7 +3,7 @@ ghost use Rattle.std.specs.Prelude.{◌≡◌, ◌≤◌, ◌+◌, ltb, length};
 ghost use Rattle.text_writer.specs.Row.{spaces, number_cell, written_cells, written_row};
 ghost use Rattle.text_writer.specs.Write.{TextLaid, TextWritten};
 
-use crate::{Written, put_bytes, put_number};
+use crate::{put_bytes, put_number};
 use integer::magnitude;
 
 // So many spaces; where the next byte stands.
@@ -59,20 +59,15 @@ pub fn write_row(
     name: &[u8],
     widths: &[usize],
     values: &[i64],
-) -> Written
+) -> Option<usize>
     ensures { TextWritten (written_row name.now widths.now values.now) buffer.old at buffer.new result }
 {
-    if buffer.len() < at {
-        return Written::Short;
+    let room = buffer.len().checked_sub(at)?.checked_sub(name.len())?;
+    if !cells_fit(widths, values, room) {
+        return None;
     }
-    if buffer.len() - at < name.len() {
-        return Written::Short;
-    }
-    if cells_fit(widths, values, buffer.len() - at - name.len()) {
-        let start = put_bytes(buffer, at, name);
-        let end = put_cells(buffer, start, widths, values);
-        buffer[end] = 10;
-        return Written::Ended { next: end + 1 };
-    }
-    Written::Short
+    let start = put_bytes(buffer, at, name);
+    let end = put_cells(buffer, start, widths, values);
+    buffer[end] = 10;
+    Some(end + 1)
 }

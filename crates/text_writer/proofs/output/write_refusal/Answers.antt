@@ -19,8 +19,8 @@ returns-then-buffer-length c =
     let a = c.args in
     text_short (refusal_lines a.found a.name.now) a.buffer.now 0 (omega (arith, refusal_length a.found a.name.now, c.digit_count-2.ensures, c.digit_count.ensures))
 
-pub put_refusal-next-requires : goal.put_refusal-next-requires
-put_refusal-next-requires c = omega (arith, refusal_length c.args.found c.args.name.now, c.digit_count-2.ensures, c.digit_count.ensures)
+pub put_refusal-requires : goal.put_refusal-requires
+put_refusal-requires c = omega (arith, refusal_length c.args.found c.args.name.now, c.digit_count-2.ensures, c.digit_count.ensures)
 
 pub returns : goal.returns
-returns c = text_stands c.put_refusal-next.ensures (omega (arith, refusal_length c.args.found c.args.name.now, c.digit_count-2.ensures, c.digit_count.ensures))
+returns c = text_stands c.put_refusal.ensures (omega (arith, refusal_length c.args.found c.args.name.now, c.digit_count-2.ensures, c.digit_count.ensures))
