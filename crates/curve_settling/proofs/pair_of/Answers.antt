@@ -52,6 +52,10 @@ unfolding spread_of
 spread_is g is_possible variance e =
     rw (variance, floor_magnitude (squares_around g (mean_of g)) g.count ((possible_is g is_possible).around (mean_of g))) at e
 
+-- V of the group, taken around its mean
+at_mean : (g : Group) {mean v : ℤ} → possible g ≡ true → mean ≡ mean_of g → v ≡ squares_near g mean → v ≡ squares_around g (mean_of g)
+at_mean g is_possible mean e = (rw mean at e) ∙ squares_near_mean g (possible_is g is_possible)
+
 pub returns : goal.returns
 unfolding pair_of
 returns c =
@@ -61,7 +65,7 @@ returns c =
     let v-fits : SFits w64 c.squares_near-v.result = search rules in
     let fits : SFits w64 c.floor_div.result = search rules in
     let mean : to_z w64 (of_z w64 c.floor_div-mean.result) ≡ mean_of g = to_z-of_z mean-fits ∙ (rw (to_z-of_z sum-fits) at c.floor_div-mean.ensures) ∙ mean_floor g in
-    let v : c.squares_near-v.result ≡ squares_around g (mean_of g) = (rw mean at c.squares_near-v.ensures) ∙ squares_near_mean g (possible_is g c.requires.g_value) in
+    let v : c.squares_near-v.result ≡ squares_around g (mean_of g) = at_mean g c.requires.g_value mean c.squares_near-v.ensures in
     let variance : c.floor_div.result ≡ floor_div (squares_around g (mean_of g)) g.count = rw (to_z-of_z v-fits, v) at c.floor_div.ensures in
     let spread = spread_is g c.requires.g_value variance (rw (to_z-of_z fits) at c.root-spread.ensures) in
     let small = root_small fits (rw (to_z-of_z fits) at c.root-spread.ensures) in
