@@ -30,6 +30,7 @@ fn quotient(a: u64, n: u64) -> u64
 
 // Division rounded toward minus infinity, by a divisor that need not fit a signed number. By 0 it is 0, and -1 for a
 // negative number.
+#[tactic(auto, using(std::proofs::lemmas::Int::ints), unfolding(crate::specs::Floor::floor_div))]
 pub fn floor_div(a: i64, n: u64) -> i64
     ensures { result ≡ floor_div a n }
 {
