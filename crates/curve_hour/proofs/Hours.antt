@@ -24,7 +24,8 @@ use Rattle.text_refusal.specs.declared.refusal.Fault.{Fault}
 use Rattle.text_line.specs.declared.Lines.{Lines}
 use Rattle.text_line.specs.declared.Lines.TheVariants as lines
 use Rattle.curve_hour.specs.Hour.{Hour, hour_fields, hour_of, Run, run_fields, runs_of, read, refused, after_runs, after_run_lines, runs_at, after_own_lines, hour_in, hour_ahead, sced_sum, error_of, hour_group, error_answer}
-use Rattle.curve_hour.specs.internal.Intervals.{intervals_of, intervals_in, Bounded}
+use Rattle.curve_hour.specs.internal.Intervals.{intervals_of, intervals_in}
+use Rattle.curve_hour.specs.internal.Ranges.{HourInRange}
 use Rattle.curve_hour.specs.declared.read.Intervals.{Intervals}
 use Rattle.curve_hour.specs.declared.read.Intervals.TheVariants as intervals
 use Rattle.curve_hour.specs.declared.read.ReadHour.{ReadHour}
@@ -32,7 +33,7 @@ use Rattle.curve_hour.specs.declared.read.ReadHour.TheVariants as read-hour
 use Rattle.text_line.proofs.FieldTexts.{moved_fault}
 use Rattle.text_schema.proofs.Moved.{moved_lines, moved_reading, reading_moved, reading_within}
 use Rattle.text_schema.proofs.Fields.{schema_computed, placed_computed}
-use Rattle.text_schema.proofs.Readings.{Within, values_within, values_bounded, lines_ends, lines_values}
+use Rattle.text_schema.proofs.Readings.{Within, values_within, lines_ends, lines_values}
 use Rattle.curve_hour.proofs.Runs.{sum_size, intervals_position, runs_length, runs_bounded, runs_within}
 
 -- ---- the values of the hour's own lines
@@ -59,25 +60,6 @@ pub hour_count : length hour_fields ≡ 13
 unfolding hour_fields
 hour_count = refl
 
--- a power value
-abbrev pub Power : ℤ → Type 0
-Power z = Within (pos 0) (pos 100000000) z
-
-pub record HourInRange (h : Hour) : Type 0 where
-  pub month : Within (pos 1) (pos 12) h.month
-  pub hour : Within (pos 0) (pos 23) h.hour
-  pub ongen : Power h.ongen
-  pub load : Power h.load
-  pub tie : Within (neg_ℤ (pos 20000000)) (pos 20000000) h.tie
-  pub ns : Power h.ns
-  pub reg : Power h.reg
-  pub rrs : Power h.rrs
-  pub nclr : Power h.nclr
-  pub offns : Power h.offns
-  pub cold30 : Power h.cold30
-  pub shed : Power h.shed
-  pub runs : Within (pos 1) (pos 60) h.runs
-
 module _ (text : List ℕ) (at next : ℕ) (e : (read_fields hour_fields text at).end ≡ lines.Read next) where
   within : (place : ℕ) → place < 13 → Within (value hour_lows place) (value hour_highs place) (value (read_fields hour_fields text at).values place)
   within place h =
@@ -101,10 +83,6 @@ module _ (text : List ℕ) (at next : ℕ) (e : (read_fields hour_fields text at
         shed = within 11 (omega arith);
         runs = within 12 (omega arith);
       }
-
-  pub hour_bounded : Bounded 100000000 (read_fields hour_fields text at).values
-  hour_bounded place =
-      rw (← hour_schema) (values_bounded 100000000 (keys_of hour_keys) hour_lows hour_highs refl refl text at next (rw hour_schema e) place)
 
 -- ---- the group and the number of runs
 
@@ -194,7 +172,7 @@ hour_long text h = rw (lt-ltb 65536 (length text) h)
 
 -- the interval reader read the part from a position on
 module _
-    (text : List ℕ) (values : List ℤ) (next : ℕ) {runs : ℕ} (inside : next ≤ length text) (counted : runs ≡ nat_abs (value values 12))
+    (text : List ℕ) (h : Hour) (next : ℕ) {runs : ℕ} (inside : next ≤ length text) (counted : runs ≡ nat_abs h.runs)
     {given : Intervals} (reads : given ≡ intervals_in runs (take (length text - next) (drop next text))) where
   rest_read : given ≡ intervals_in runs (drop next text)
   rest_read = rw (take_all (length text - next) (drop next text) (omega (arith, length-drop next text))) at reads
@@ -202,11 +180,11 @@ module _
   pub given_within : next + intervals_position given ≤ length text
   given_within = rw rest_read (omega (arith, inside, length-drop next text, runs_within runs (drop next text)))
 
-  pub runs_answers : (found : Intervals) → given ≡ found → answer_of text (hour_of values) next found ≡ error_answer (runs_at text (hour_of values) next)
-  runs_answers found is = rw (← is, rest_read, counted) (runs_answer text (hour_of values) next)
+  pub runs_answers : (found : Intervals) → given ≡ found → answer_of text h next found ≡ error_answer (runs_at text h next)
+  runs_answers found is = rw (← is, rest_read, counted) (runs_answer text h next)
 
   module _ (sum : ℤ) (after : ℕ) (is : given ≡ intervals.Sum sum after) where
-    pub runs_ended : (found : Lines) → found ≡ end_at text (next + after) → answer_at_end text (hour_of values) sum found ≡ error_answer (runs_at text (hour_of values) next)
+    pub runs_ended : (found : Lines) → found ≡ end_at text (next + after) → answer_at_end text h sum found ≡ error_answer (runs_at text h next)
     runs_ended found e = rw e (runs_answers (intervals.Sum sum after) is)
 
     pub mean_small : nat_abs (floor_div sum runs) ≤ 900000000
@@ -232,14 +210,11 @@ module _
     own_read : (read_fields hour_fields text 0).end ≡ lines.Read next
     own_read = sym own_ends ∙ told
 
-    pub own_bounded : Bounded 100000000 values
-    own_bounded place = rw own_values (hour_bounded text 0 next own_read place)
-
     pub next_within : next ≤ length text
     next_within = rw own_read at (reading_within text hour_fields 0 (omega arith))
 
-    pub runs_few : nat_abs (value values 12) ≤ 60
-    runs_few = rw own_values (runs_range (hour_of (read_fields hour_fields text 0).values) (hour_ranges text 0 next own_read)).1
+    pub own_ranges : HourInRange (hour_of values)
+    own_ranges = rw own_values (hour_ranges text 0 next own_read)
 
     pub runs_left : error_answer (runs_at text (hour_of values) next) ≡ error_answer (hour_in text)
     unfolding hour_in

@@ -15,11 +15,12 @@ use Rattle.text_line.specs.declared.Lines.{Lines}
 use Rattle.text_line.specs.declared.Lines.TheVariants as lines
 use Rattle.curve_hour.specs.Hour.{run_fields, run_of, runs_of, sced_reserve, sced_sum}
 use Rattle.curve_hour.specs.internal.Intervals.{intervals_of, intervals_in, Bounded}
+use Rattle.curve_hour.specs.internal.Ranges.{RunInRange}
 use Rattle.curve_hour.specs.declared.read.Intervals.{Intervals}
 use Rattle.curve_hour.specs.declared.read.Intervals.TheVariants as intervals
 use Rattle.text_schema.proofs.Moved.{lines_position, reading_within}
 use Rattle.text_schema.proofs.Fields.{repeated_none, repeated_more, schema_computed, placed_computed}
-use Rattle.text_schema.proofs.Readings.{reading_none, reading_append, reading_length, lines_ends, lines_values, values_bounded}
+use Rattle.text_schema.proofs.Readings.{reading_none, reading_append, reading_length, lines_ends, lines_values, Within, values_within, values_bounded}
 
 pub runs_length : (n : ℕ) (values : List ℤ) → length (runs_of n values) ≡ n
 unfolding runs_of
@@ -46,6 +47,25 @@ run_count = refl
 module _ (part : List ℕ) (at next : ℕ) (e : (read_fields run_fields part at).end ≡ lines.Read next) where
   pub run_values : length (read_fields run_fields part at).values ≡ 9
   run_values = reading_length run_fields part at next e ∙ run_count
+
+  run_within : (place : ℕ) → place < 9 → Within (value (replicate 9 (pos 0)) place) (value (replicate 9 (pos 100000000)) place) (value (read_fields run_fields part at).values place)
+  run_within place h =
+      let below : place < length run_fields = rw run_count h in
+      rw (← run_schema) (values_within (keys_of run_keys) (replicate 9 (pos 0)) (replicate 9 (pos 100000000)) part at next (rw run_schema e) place (rw run_schema below))
+
+  pub run_ranges : RunInRange (run_of (read_fields run_fields part at).values)
+  run_ranges =
+      record {
+        hsl = run_within 0 (omega arith);
+        base = run_within 1 (omega arith);
+        rrs = run_within 2 (omega arith);
+        nclr = run_within 3 (omega arith);
+        reg = run_within 4 (omega arith);
+        ns = run_within 5 (omega arith);
+        offns = run_within 6 (omega arith);
+        cold30 = run_within 7 (omega arith);
+        short = run_within 8 (omega arith);
+      }
 
   pub run_bounded : Bounded 100000000 (read_fields run_fields part at).values
   run_bounded place =
@@ -104,8 +124,8 @@ module _
   pub run_filled : (next : ℕ) → ended ≡ lines.Read next → values ≡ (read_fields run_fields part at).values
   run_filled = lines_values run_fields run_places run_count read
 
-  pub run_held : (next : ℕ) → ended ≡ lines.Read next → Bounded 100000000 values
-  run_held next e place = rw (run_filled next e) (run_bounded part at next (sym run_ends ∙ e) place)
+  pub run_in_range : (next : ℕ) → ended ≡ lines.Read next → RunInRange (run_of values)
+  run_in_range next e = rw (run_filled next e) (run_ranges part at next (sym run_ends ∙ e))
 
   -- one run as an interval reader gives it
   pub one_refused : {found : Fault} → ended ≡ lines.Refused found → intervals.Refused found ≡ intervals_of 1 (read_fields run_fields part at)

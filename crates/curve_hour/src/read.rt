@@ -1,15 +1,10 @@
 // One hour's text: the hour-ahead reserve, the reserves of its SCED runs, and the reserve error.
-ghost use Rattle.std.specs.Prelude.{◌≡◌, ◌≤◌, ◌<◌, nat_abs, ◌+ℤ◌, ◌-ℤ◌, length};
-ghost use Rattle.integer.specs.Floor.{floor_div};
-ghost use Rattle.text_schema.specs.Schema.{value};
-ghost use Rattle.curve_hour.specs.Hour.{hour_in, hour_of, runs_at, hour_ahead, hour_group, error_answer};
-ghost use Rattle.curve_hour.specs.internal.Intervals.{Bounded};
-ghost use Rattle.curve_hour.specs.declared.read.ReadHour.TheVariants as read-hour;
+ghost use Rattle.std.specs.Prelude.{◌≡◌, ◌≤◌, length};
+ghost use Rattle.curve_hour.specs.Hour.{hour_in, runs_at, error_answer};
 
 use crate::intervals::read_intervals;
-use crate::reserve::reserve_error;
-use curve_group::group_of;
-use integer::{floor_div, magnitude};
+use crate::reserve::HourValues;
+use integer::floor_div;
 use text_line::{Lines, end_at};
 use text_refusal::refusal::{Fault, Refusal, refusal_of};
 use text_schema::read_lines;
@@ -36,32 +31,14 @@ pub(crate) enum Intervals {
     Refused(Fault),
 }
 
-// The magnitude of a value, by its place.
-fn magnitude_at(v: &[i64], place: usize) -> u64
-    requires { place < length v.now }
-    ensures { result ≡ nat_abs (value v.now place) }
-{
-    magnitude(v[place])
-}
-
-// The group and the reserve error of an hour, given the number of its runs and the sum of SCED over them.
-fn error_of(v: &[i64], runs: u64, sum: i64) -> ReadHour
-    requires { (length v.now ≡ 13) × (nat_abs (floor_div sum runs) ≤ 900000000) × Bounded 100000000 v.now }
-    ensures { result ≡ read-hour.Error (hour_group (hour_of v.now)) (hour_ahead (hour_of v.now) -ℤ floor_div sum runs +ℤ (hour_of v.now).shed) }
-{
-    ReadHour::Error {
-        group: group_of(magnitude_at(v, 0), magnitude_at(v, 1)),
-        error: reserve_error(v, floor_div(sum, runs)),
-    }
-}
-
 // An hour whose own lines were read: its runs and the end of the text. The lines of the runs are a part of the text, and a position in the part is moved
 // by where it starts.
-fn runs_at(text: &[u8], next: usize, v: &[i64]) -> ReadHour
-    requires { (length text.now ≤ 65536) × (next ≤ length text.now) × (length v.now ≡ 13) × (nat_abs (value v.now 12) ≤ 60) × Bounded 100000000 v.now }
-    ensures { result ≡ error_answer (runs_at text.now (hour_of v.now) next) }
+fn runs_at(text: &[u8], next: usize, hour: &HourValues) -> ReadHour
+    requires short { length text.now ≤ 65536 }
+    requires inside { next ≤ length text.now }
+    ensures { result ≡ error_answer (runs_at text.now hour.now next) }
 {
-    let runs = magnitude_at(v, 12);
+    let runs = hour.runs();
     match read_intervals(&text[next..], runs) {
         Intervals::Refused(fault) => {
             let found = Fault {
@@ -72,7 +49,10 @@ fn runs_at(text: &[u8], next: usize, v: &[i64]) -> ReadHour
         }
         Intervals::Sum { sum, next: length } => match end_at(text, next + length) {
             Lines::Refused(fault) => ReadHour::Refused(refusal_of(text, fault)),
-            Lines::Read { next: _ } => error_of(v, runs, sum),
+            Lines::Read { next: _ } => ReadHour::Error {
+                group: hour.group(),
+                error: hour.error(floor_div(sum, runs)),
+            },
         },
     }
 }
@@ -84,17 +64,17 @@ pub fn read_hour(text: &[u8]) -> ReadHour
     if 65536 < text.len() {
         return ReadHour::Refused(Refusal { number: 2, line: 0 });
     }
-    let mut v = [0i64; 13];
+    let mut values = [0i64; 13];
     let b = read_lines(
         text,
         0,
         b"month=hour=ongen=load=tie=ns=reg=rrs=nclr=offns=cold30=shed=runs=",
         &LOWS,
         &HIGHS,
-        &mut v,
+        &mut values,
     );
     match b {
         Lines::Refused(fault) => ReadHour::Refused(refusal_of(text, fault)),
-        Lines::Read { next } => runs_at(text, next, &v),
+        Lines::Read { next } => runs_at(text, next, &HourValues::of(&values)),
     }
 }
