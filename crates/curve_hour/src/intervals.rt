@@ -5,9 +5,8 @@ ghost use Rattle.curve_hour.specs.Hour.{Run, run_fields, run_of, sced_reserve};
 ghost use Rattle.curve_hour.specs.internal.Intervals.{intervals_of, intervals_in};
 ghost use Rattle.curve_hour.specs.internal.Ranges.{RunInRange};
 
-use crate::read::Intervals;
 use std::marker::Model;
-use text_line::Lines;
+use text_refusal::refusal::Fault;
 use text_schema::read_lines;
 
 // The values of a run's lines, each in its range.
@@ -61,46 +60,43 @@ impl RunValues {
     }
 }
 
+// The sum of the runs' reserves, and where their lines end.
+#[derive(Clone, Copy)]
+pub(crate) struct Intervals {
+    pub(crate) sum: i64,
+    pub(crate) next: usize,
+}
+
 // One run: its reserve and where its lines end.
-fn run_at(part: &[u8], at: usize) -> Intervals
+fn run_at(part: &[u8], at: usize) -> Result<Intervals, Fault>
     ensures { result ≡ intervals_of 1 (read_fields run_fields part.now at) }
 {
     let mut values = [0i64; 9];
-    let b = read_lines(
+    let next = read_lines(
         part,
         at,
         b"hsl=base=rrs=nclr=reg=ns=offns=cold30=short=",
         &[0; 9],
         &[100000000; 9],
         &mut values,
-    );
-    match b {
-        Lines::Refused(fault) => Intervals::Refused(fault),
-        Lines::Read { next } => Intervals::Sum {
-            sum: RunValues::of(&values).reserve(),
-            next,
-        },
-    }
+    )?;
+    Ok(Intervals {
+        sum: RunValues::of(&values).reserve(),
+        next,
+    })
 }
 
 // The interval reader: the runs that stand in a part of the hour's text.
-pub(crate) fn read_intervals(part: &[u8], runs: u64) -> Intervals
+pub(crate) fn read_intervals(part: &[u8], runs: u64) -> Result<Intervals, Fault>
     requires { runs ≤ 60 }
     ensures { result ≡ intervals_in runs part.now }
 {
     let mut sum: i64 = 0;
     let mut next: usize = 0;
     for _run in 0..runs {
-        let r = run_at(part, next);
-        let Intervals::Sum {
-            sum: reserve,
-            next: after,
-        } = r
-        else {
-            return r;
-        };
-        sum += reserve;
-        next = after;
+        let run = run_at(part, next)?;
+        sum += run.sum;
+        next = run.next;
     }
-    Intervals::Sum { sum, next }
+    Ok(Intervals { sum, next })
 }

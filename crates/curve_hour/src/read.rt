@@ -5,7 +5,7 @@ ghost use Rattle.curve_hour.specs.Hour.{hour_in, runs_at, error_answer};
 use crate::intervals::read_intervals;
 use crate::reserve::HourValues;
 use integer::floor_div;
-use text_line::{Lines, end_at};
+use text_line::end_at;
 use text_refusal::refusal::{Fault, Refusal, refusal_of};
 use text_schema::read_lines;
 
@@ -19,62 +19,52 @@ const HIGHS: [i64; 13] = [
 
 // The group and the reserve error of an hour, in kW.
 #[derive(Clone, Copy)]
-pub enum ReadHour {
-    Error { group: u64, error: i64 },
-    Refused(Refusal),
-}
-
-// The sum of the runs' reserves and where their lines end, or the refused line.
-#[derive(Clone, Copy)]
-pub(crate) enum Intervals {
-    Sum { sum: i64, next: usize },
-    Refused(Fault),
+pub struct HourlyError {
+    pub group: u64,
+    pub error: i64,
 }
 
 // An hour whose own lines were read: its runs and the end of the text. The lines of the runs are a part of the text, and a position in the part is moved
 // by where it starts.
-fn runs_at(text: &[u8], next: usize, hour: &HourValues) -> ReadHour
+fn runs_at(text: &[u8], next: usize, hour: &HourValues) -> Result<HourlyError, Refusal>
     requires short { length text.now ≤ 65536 }
     requires inside { next ≤ length text.now }
     ensures { result ≡ error_answer (runs_at text.now hour.now next) }
 {
     let runs = hour.runs();
-    match read_intervals(&text[next..], runs) {
-        Intervals::Refused(fault) => {
+    let read = match read_intervals(&text[next..], runs) {
+        Ok(read) => read,
+        Err(fault) => {
             let found = Fault {
                 number: fault.number,
                 at: next + fault.at,
             };
-            ReadHour::Refused(refusal_of(text, found))
+            return Err(refusal_of(text, found));
         }
-        Intervals::Sum { sum, next: length } => match end_at(text, next + length) {
-            Lines::Refused(fault) => ReadHour::Refused(refusal_of(text, fault)),
-            Lines::Read { next: _ } => ReadHour::Error {
-                group: hour.group(),
-                error: hour.error(floor_div(sum, runs)),
-            },
-        },
-    }
+    };
+    end_at(text, next + read.next).map_err(|fault| refusal_of(text, fault))?;
+    Ok(HourlyError {
+        group: hour.group(),
+        error: hour.error(floor_div(read.sum, runs)),
+    })
 }
 
 // An hour's text read: its group and its reserve error.
-pub fn read_hour(text: &[u8]) -> ReadHour
+pub fn read_hour(text: &[u8]) -> Result<HourlyError, Refusal>
     ensures { result ≡ error_answer (hour_in text.now) }
 {
     if 65536 < text.len() {
-        return ReadHour::Refused(Refusal { number: 2, line: 0 });
+        return Err(Refusal { number: 2, line: 0 });
     }
     let mut values = [0i64; 13];
-    let b = read_lines(
+    let next = read_lines(
         text,
         0,
         b"month=hour=ongen=load=tie=ns=reg=rrs=nclr=offns=cold30=shed=runs=",
         &LOWS,
         &HIGHS,
         &mut values,
-    );
-    match b {
-        Lines::Refused(fault) => ReadHour::Refused(refusal_of(text, fault)),
-        Lines::Read { next } => runs_at(text, next, &HourValues::of(&values)),
-    }
+    )
+    .map_err(|fault| refusal_of(text, fault))?;
+    runs_at(text, next, &HourValues::of(&values))
 }
