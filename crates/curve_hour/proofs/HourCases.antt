@@ -6,11 +6,11 @@ use mathlib.Core.Path.{◌≡◌, sym}
 use lib.IntN.{ℤ, pos, ◌+ℤ◌, ◌-ℤ◌}
 use lib.ListN.{length}
 use borrow.Author.Tests.{lt-ltb, le-ltb}
+use Rattle.std.specs.Prelude.{Ok, Err}
 use Rattle.integer.specs.Floor.{floor_div}
 use Rattle.integer.proofs.Difference.{view, to_ℕ}
 use Rattle.text_refusal.specs.Refusal.{line_of, refusal_of}
 use Rattle.text_refusal.specs.declared.refusal.Fault.{Fault}
-use Rattle.text_line.specs.declared.Lines.TheVariants as lines
 use Rattle.curve_hour.specs.Hour.{Hour, Run, read, refused, own_lines, own_hour, run_lines, own_runs, hour_in, hour_ahead, sced_sum, error_of}
 
 -- ---- reading
@@ -21,16 +21,16 @@ module _ (text : List ℕ) where
   hour_too_long_lem long = rw (lt-ltb 65536 (length text) long)
 
   module _ (short : length text ≤ 65536) where
-    pub hour_line_refused : (found : Fault) → (own_lines text).end ≡ lines.Refused found → hour_in text ≡ refused (refusal_of text found)
+    pub hour_line_refused : (found : Fault) → (own_lines text).end ≡ Err found → hour_in text ≡ refused (refusal_of text found)
     unfolding hour_in
     hour_line_refused found e = rw (le-ltb 65536 (length text) short, e)
 
-    module _ (next : ℕ) (own : (own_lines text).end ≡ lines.Read next) where
-      pub run_line_refused : (found : Fault) → (run_lines text next).end ≡ lines.Refused found → hour_in text ≡ refused (refusal_of text found)
+    module _ (next : ℕ) (own : (own_lines text).end ≡ Ok next) where
+      pub run_line_refused : (found : Fault) → (run_lines text next).end ≡ Err found → hour_in text ≡ refused (refusal_of text found)
       unfolding hour_in
       run_line_refused found e = rw (le-ltb 65536 (length text) short, own, e)
 
-      module _ (stop : ℕ) (runs : (run_lines text next).end ≡ lines.Read stop) where
+      module _ (stop : ℕ) (runs : (run_lines text next).end ≡ Ok stop) where
         pub hour_bytes_follow : stop < length text → hour_in text ≡ refused (record { number = 9; line = line_of text stop })
         unfolding hour_in
         hour_bytes_follow more = rw (le-ltb 65536 (length text) short, own, runs, lt-ltb stop (length text) more)

@@ -7,19 +7,18 @@ use mathlib.Core.Path.{◌≡◌, refl, sym, ap, ◌∙◌}
 use lib.IntN.{ℤ, pos, nat_abs, ◌+ℤ◌, ◌-ℤ◌, +ℤ_assoc, +ℤ_idl, +ℤ_idr}
 use lib.ListN.{length, replicate, drop, get_or-append}
 use lib.Seq.{drop_at}
+use Rattle.std.specs.Prelude.{Result, Ok, Err}
 use Rattle.integer.proofs.Bounds.{abs_add, abs_sub}
 use Rattle.text_refusal.specs.Bytes.{bytes}
 use Rattle.text_schema.specs.Schema.{Reading, read_fields, repeated, number_fields, keys_of, placed_fields, LinesRead, value}
 use Rattle.text_refusal.specs.declared.refusal.Fault.{Fault}
-use Rattle.text_line.specs.declared.Lines.{Lines}
-use Rattle.text_line.specs.declared.Lines.TheVariants as lines
 use Rattle.curve_hour.specs.Hour.{run_fields, run_of, runs_of, sced_reserve, sced_sum}
 use Rattle.curve_hour.specs.internal.Intervals.{intervals_of, intervals_in, Bounded}
-use Rattle.curve_hour.specs.declared.read.Intervals.{Intervals}
-use Rattle.curve_hour.specs.declared.read.Intervals.TheVariants as intervals
+use Rattle.curve_hour.specs.internal.Ranges.{RunInRange}
+use Rattle.curve_hour.specs.declared.intervals.Intervals.{Intervals}
 use Rattle.text_schema.proofs.Moved.{lines_position, reading_within}
 use Rattle.text_schema.proofs.Fields.{repeated_none, repeated_more, schema_computed, placed_computed}
-use Rattle.text_schema.proofs.Readings.{reading_none, reading_append, reading_length, lines_ends, lines_values, values_bounded}
+use Rattle.text_schema.proofs.Readings.{reading_none, reading_append, reading_length, lines_ends, lines_values, Within, values_within, values_bounded}
 
 pub runs_length : (n : ℕ) (values : List ℤ) → length (runs_of n values) ≡ n
 unfolding runs_of
@@ -43,9 +42,28 @@ pub run_count : length run_fields ≡ 9
 unfolding run_fields
 run_count = refl
 
-module _ (part : List ℕ) (at next : ℕ) (e : (read_fields run_fields part at).end ≡ lines.Read next) where
+module _ (part : List ℕ) (at next : ℕ) (e : (read_fields run_fields part at).end ≡ Ok next) where
   pub run_values : length (read_fields run_fields part at).values ≡ 9
   run_values = reading_length run_fields part at next e ∙ run_count
+
+  run_within : (place : ℕ) → place < 9 → Within (value (replicate 9 (pos 0)) place) (value (replicate 9 (pos 100000000)) place) (value (read_fields run_fields part at).values place)
+  run_within place h =
+      let below : place < length run_fields = rw run_count h in
+      rw (← run_schema) (values_within (keys_of run_keys) (replicate 9 (pos 0)) (replicate 9 (pos 100000000)) part at next (rw run_schema e) place (rw run_schema below))
+
+  pub run_ranges : RunInRange (run_of (read_fields run_fields part at).values)
+  run_ranges =
+      record {
+        hsl = run_within 0 (omega arith);
+        base = run_within 1 (omega arith);
+        rrs = run_within 2 (omega arith);
+        nclr = run_within 3 (omega arith);
+        reg = run_within 4 (omega arith);
+        ns = run_within 5 (omega arith);
+        offns = run_within 6 (omega arith);
+        cold30 = run_within 7 (omega arith);
+        short = run_within 8 (omega arith);
+      }
 
   pub run_bounded : Bounded 100000000 (read_fields run_fields part at).values
   run_bounded place =
@@ -96,67 +114,68 @@ sced_bounded values b =
 
 -- a run as the reader of lines gives it
 module _
-    {part : List ℕ} {at : ℕ} {values : List ℤ} {ended : Lines}
+    {part : List ℕ} {at : ℕ} {values : List ℤ} {ended : Result ℕ Fault}
     (read : LinesRead part at run_keys (replicate 9 (pos 0)) (replicate 9 (pos 100000000)) (replicate 9 (pos 0)) values ended) where
   pub run_ends : ended ≡ (read_fields run_fields part at).end
   run_ends = lines_ends run_fields run_places run_count read
 
-  pub run_filled : (next : ℕ) → ended ≡ lines.Read next → values ≡ (read_fields run_fields part at).values
+  pub run_filled : (next : ℕ) → ended ≡ Ok next → values ≡ (read_fields run_fields part at).values
   run_filled = lines_values run_fields run_places run_count read
 
-  pub run_held : (next : ℕ) → ended ≡ lines.Read next → Bounded 100000000 values
-  run_held next e place = rw (run_filled next e) (run_bounded part at next (sym run_ends ∙ e) place)
+  pub run_in_range : (next : ℕ) → ended ≡ Ok next → RunInRange (run_of values)
+  run_in_range next e = rw (run_filled next e) (run_ranges part at next (sym run_ends ∙ e))
 
   -- one run as an interval reader gives it
-  pub one_refused : {found : Fault} → ended ≡ lines.Refused found → intervals.Refused found ≡ intervals_of 1 (read_fields run_fields part at)
+  pub one_refused : {found : Fault} → ended ≡ Err found → Err found ≡ intervals_of 1 (read_fields run_fields part at)
   one_refused told = rw (← run_ends, told)
 
-  pub one_read : {next : ℕ} {reserve : ℤ} → ended ≡ lines.Read next → reserve ≡ sced_reserve (run_of values) → intervals.Sum reserve next ≡ intervals_of 1 (read_fields run_fields part at)
+  pub one_read : {next : ℕ} {reserve : ℤ} → ended ≡ Ok next → reserve ≡ sced_reserve (run_of values) → Ok (record { sum = reserve; next = next }) ≡ intervals_of 1 (read_fields run_fields part at)
   unfolding runs_of sced_sum
   one_read {next} told is =
       rw (← run_ends, told, is, run_filled next told, +ℤ_idr (sced_reserve (run_of (read_fields run_fields part at).values)))
 
 -- what the answer of one run says of its lines
 module _ (reading : Reading ℤ) where
-  pub refused_run : {found : Fault} → intervals_of 1 reading ≡ intervals.Refused found → reading.end ≡ lines.Refused found
+  pub refused_run : {found : Fault} → intervals_of 1 reading ≡ Err found → reading.end ≡ Err found
   refused_run {found} e = go reading.end refl e
     where
-      go : (end : Lines) → reading.end ≡ end → intervals_of 1 (record { values = reading.values; end = end }) ≡ intervals.Refused found → reading.end ≡ lines.Refused found
-      go (lines.Refused other) is e = let same : other ≡ found = cc in rw (is, same)
-      go (lines.Read next) is e = let z : ◌≡◌ {A = ℕ} 0 1 = cc in absurd (omega arith)
+      go : (end : Result ℕ Fault) → reading.end ≡ end → intervals_of 1 (record { values = reading.values; end = end }) ≡ Err found → reading.end ≡ Err found
+      go (Err other) is e = let same : other ≡ found = cc in rw (is, same)
+      go (Ok next) is e = let z : ◌≡◌ {A = ℕ} 0 1 = cc in absurd (omega arith)
 
   pub read_run :
-      {reserve : ℤ} {after : ℕ} → intervals_of 1 reading ≡ intervals.Sum reserve after →
-      (reading.end ≡ lines.Read after) × (reserve ≡ sced_reserve (run_of reading.values))
+      {run : Intervals} → intervals_of 1 reading ≡ Ok run →
+      (reading.end ≡ Ok run.next) × (run.sum ≡ sced_reserve (run_of reading.values))
   unfolding runs_of sced_sum
-  read_run {reserve} {after} e = go reading.end refl e
+  read_run {run} e = go reading.end refl e
     where
       go :
-          (end : Lines) → reading.end ≡ end → intervals_of 1 (record { values = reading.values; end = end }) ≡ intervals.Sum reserve after →
-          (reading.end ≡ lines.Read after) × (reserve ≡ sced_reserve (run_of reading.values))
-      go (lines.Refused other) is e = let z : ◌≡◌ {A = ℕ} 0 1 = cc in absurd (omega arith)
-      go (lines.Read next) is e =
-          let same : next ≡ after = cc in
-          let sum : sced_reserve (run_of reading.values) +ℤ pos 0 ≡ reserve = cc in
+          (end : Result ℕ Fault) → reading.end ≡ end → intervals_of 1 (record { values = reading.values; end = end }) ≡ Ok run →
+          (reading.end ≡ Ok run.next) × (run.sum ≡ sced_reserve (run_of reading.values))
+      go (Err other) is e = let z : ◌≡◌ {A = ℕ} 0 1 = cc in absurd (omega arith)
+      go (Ok next) is e =
+          let read : ◌≡◌ {A = Intervals} (record { sum = sced_reserve (run_of reading.values) +ℤ pos 0; next = next }) run = cc in
+          let same = ap (λ (r : Intervals). r.next) read in
+          let sum = ap (λ (r : Intervals). r.sum) read in
           (rw (is, same), sym sum ∙ +ℤ_idr (sced_reserve (run_of reading.values)))
 
 -- ---- one run more
 
 -- the runs from a position on, and a sum that stands before them
-abbrev pub intervals_from : ℕ → List ℕ → ℕ → Intervals
+abbrev pub intervals_from : ℕ → List ℕ → ℕ → Result Intervals Fault
 intervals_from n part at = intervals_of n (read_fields (repeated n run_fields) part at)
 
-abbrev pub with_sum : ℤ → Intervals → Intervals
-with_sum sum (intervals.Sum other next) = intervals.Sum (sum +ℤ other) next
-with_sum sum (intervals.Refused found) = intervals.Refused found
+abbrev pub with_sum : ℤ → Result Intervals Fault → Result Intervals Fault
+with_sum sum (Ok others) = Ok (record { sum = sum +ℤ others.sum; next = others.next })
+with_sum sum (Err found) = Err found
 
-with_sums : (first second : ℤ) (others : Intervals) → with_sum first (with_sum second others) ≡ with_sum (first +ℤ second) others
-with_sums first second (intervals.Sum other next) = rw (+ℤ_assoc first second other)
-with_sums first second (intervals.Refused found) = refl
+with_sums : (first second : ℤ) (others : Result Intervals Fault) → with_sum first (with_sum second others) ≡ with_sum (first +ℤ second) others
+with_sums first second (Ok others) = rw (+ℤ_assoc first second others.sum)
+with_sums first second (Err found) = refl
 
-no_sum : (others : Intervals) → others ≡ with_sum (pos 0) others
-no_sum (intervals.Sum other next) = rw (+ℤ_idl other)
-no_sum (intervals.Refused found) = refl
+no_sum : (others : Result Intervals Fault) → others ≡ with_sum (pos 0) others
+no_sum (Ok others) = rw (+ℤ_idl others.sum)
+no_sum (Err found) = refl
 
 run_first : (values others : List ℤ) → length values ≡ 9 → run_of (values ++ others) ≡ run_of values
 run_first values others e =
@@ -175,7 +194,7 @@ run_first values others e =
 
 module _ (n : ℕ) (part : List ℕ) (at : ℕ) where
   run_read :
-      (next : ℕ) → (read_fields run_fields part at).end ≡ lines.Read next →
+      (next : ℕ) → (read_fields run_fields part at).end ≡ Ok next →
       intervals_from (suc n) part at ≡ with_sum (sced_reserve (run_of (read_fields run_fields part at).values)) (intervals_from n part next)
   unfolding runs_of sced_sum
   run_read next e = rw (repeated_more run_fields n, reading_append run_fields (repeated n run_fields) part at, e) (go (read_fields (repeated n run_fields) part next))
@@ -186,38 +205,38 @@ module _ (n : ℕ) (part : List ℕ) (at : ℕ) where
       go : (others : Reading ℤ) → intervals_of (suc n) (record { values = values ++ others.values; end = others.end }) ≡ with_sum (sced_reserve (run_of values)) (intervals_of n others)
       go others = by_end others.end refl
         where
-          by_end : (end : Lines) → others.end ≡ end → intervals_of (suc n) (record { values = values ++ others.values; end = others.end }) ≡ with_sum (sced_reserve (run_of values)) (intervals_of n others)
-          by_end (lines.Read after) h = rw (h, run_first values others.values (run_values part at next e), drop_at values others.values 9 (run_values part at next e))
-          by_end (lines.Refused found) h = rw h
+          by_end : (end : Result ℕ Fault) → others.end ≡ end → intervals_of (suc n) (record { values = values ++ others.values; end = others.end }) ≡ with_sum (sced_reserve (run_of values)) (intervals_of n others)
+          by_end (Ok after) h = rw (h, run_first values others.values (run_values part at next e), drop_at values others.values 9 (run_values part at next e))
+          by_end (Err found) h = rw h
 
-  run_refused : (found : Fault) → (read_fields run_fields part at).end ≡ lines.Refused found → intervals_from (suc n) part at ≡ intervals.Refused found
+  run_refused : (found : Fault) → (read_fields run_fields part at).end ≡ Err found → intervals_from (suc n) part at ≡ Err found
   run_refused found e = rw (repeated_more run_fields n, reading_append run_fields (repeated n run_fields) part at, e)
 
 -- ---- bounds
 
-abbrev pub sum_size : Intervals → ℕ
-sum_size (intervals.Sum sum next) = nat_abs sum
-sum_size (intervals.Refused found) = 0
+abbrev pub sum_size : Result Intervals Fault → ℕ
+sum_size (Ok read) = nat_abs read.sum
+sum_size (Err found) = 0
 
 pub runs_bounded : (n : ℕ) (part : List ℕ) (at : ℕ) → sum_size (intervals_from n part at) ≤ n * 900000000
 unfolding runs_of sced_sum
 runs_bounded zero part at = rw (repeated_none run_fields, reading_none {A = ℤ} part at) (omega arith)
 runs_bounded (suc n) part at = go (read_fields run_fields part at).end refl (runs_bounded n part)
   where
-    more : (reserve : ℤ) (others : Intervals) → nat_abs reserve ≤ 900000000 → sum_size others ≤ n * 900000000 → sum_size (with_sum reserve others) ≤ suc n * 900000000
-    more reserve (intervals.Sum sum next) h k = omega (arith, abs_add reserve sum)
-    more reserve (intervals.Refused found) h k = omega arith
+    more : (reserve : ℤ) (others : Result Intervals Fault) → nat_abs reserve ≤ 900000000 → sum_size others ≤ n * 900000000 → sum_size (with_sum reserve others) ≤ suc n * 900000000
+    more reserve (Ok others) h k = omega (arith, abs_add reserve others.sum)
+    more reserve (Err found) h k = omega arith
 
-    go : (end : Lines) → (read_fields run_fields part at).end ≡ end → ((at : ℕ) → sum_size (intervals_from n part at) ≤ n * 900000000) → sum_size (intervals_from (suc n) part at) ≤ suc n * 900000000
-    go (lines.Read next) e again =
+    go : (end : Result ℕ Fault) → (read_fields run_fields part at).end ≡ end → ((at : ℕ) → sum_size (intervals_from n part at) ≤ n * 900000000) → sum_size (intervals_from (suc n) part at) ≤ suc n * 900000000
+    go (Ok next) e again =
         rw (run_read n part at next e)
         (more (sced_reserve (run_of (read_fields run_fields part at).values)) (intervals_from n part next) (sced_bounded (read_fields run_fields part at).values (run_bounded part at next e)) (again next))
-    go (lines.Refused found) e again = rw (run_refused n part at found e) (omega arith)
+    go (Err found) e again = rw (run_refused n part at found e) (omega arith)
 
 -- where reading the runs stopped in their part
-abbrev pub intervals_position : Intervals → ℕ
-intervals_position (intervals.Sum sum next) = next
-intervals_position (intervals.Refused found) = found.at
+abbrev pub intervals_position : Result Intervals Fault → ℕ
+intervals_position (Ok read) = read.next
+intervals_position (Err found) = found.at
 
 pub runs_within : (n : ℕ) (part : List ℕ) → intervals_position (intervals_in n part) ≤ length part
 runs_within n part = go (read_fields (repeated n run_fields) part 0) (reading_within part (repeated n run_fields) 0 (omega arith))
@@ -225,9 +244,9 @@ runs_within n part = go (read_fields (repeated n run_fields) part 0) (reading_wi
     go : (reading : Reading ℤ) → lines_position reading.end ≤ length part → intervals_position (intervals_of n reading) ≤ length part
     go reading h = by_end reading.end refl h
       where
-        by_end : (end : Lines) → reading.end ≡ end → lines_position end ≤ length part → intervals_position (intervals_of n reading) ≤ length part
-        by_end (lines.Read next) e h = rw e h
-        by_end (lines.Refused found) e h = rw e h
+        by_end : (end : Result ℕ Fault) → reading.end ≡ end → lines_position end ≤ length part → intervals_position (intervals_of n reading) ≤ length part
+        by_end (Ok next) e h = rw e h
+        by_end (Err found) e h = rw e h
 
 -- ---- the loop: i runs are read, and those that are left start at a position
 
@@ -240,7 +259,7 @@ pub runs_start : (runs : ℕ) (part : List ℕ) → RunsRead runs part (pos 0) 0
 runs_start runs part = record { some = omega arith; small = omega arith; rest = rw sub-zero (no_sum (intervals_in runs part)) }
 
 module _ {runs : ℕ} {part : List ℕ} {sum : ℤ} {next i : ℕ} (so_far : RunsRead runs part sum next i) where
-  pub runs_over : runs ≤ i → intervals.Sum sum next ≡ intervals_in runs part
+  pub runs_over : runs ≤ i → Ok (record { sum = sum; next = next }) ≡ intervals_in runs part
   unfolding runs_of sced_sum
   runs_over h =
       let none : runs - i ≡ 0 = omega arith in
@@ -250,21 +269,21 @@ module _ {runs : ℕ} {part : List ℕ} {sum : ℤ} {next i : ℕ} (so_far : Run
     one_less : runs - i ≡ suc (runs - (i + 1))
     one_less = omega arith
 
-    pub runs_refused : {given : Intervals} {found : Fault} → given ≡ intervals_of 1 (read_fields run_fields part next) → given ≡ intervals.Refused found → given ≡ intervals_in runs part
+    pub runs_refused : {given : Result Intervals Fault} {found : Fault} → given ≡ intervals_of 1 (read_fields run_fields part next) → given ≡ Err found → Err found ≡ intervals_in runs part
     runs_refused {found = found} is told =
-        rw (so_far.rest, one_less, run_refused (runs - (i + 1)) part next found (refused_run (read_fields run_fields part next) (sym is ∙ told)), told)
+        rw (so_far.rest, one_less, run_refused (runs - (i + 1)) part next found (refused_run (read_fields run_fields part next) (sym is ∙ told)))
 
-    module _ {given : Intervals} {reserve : ℤ} {after : ℕ} (is : given ≡ intervals_of 1 (read_fields run_fields part next)) (told : given ≡ intervals.Sum reserve after) where
-      one : ((read_fields run_fields part next).end ≡ lines.Read after) × (reserve ≡ sced_reserve (run_of (read_fields run_fields part next).values))
+    module _ {given : Result Intervals Fault} {run : Intervals} (is : given ≡ intervals_of 1 (read_fields run_fields part next)) (told : given ≡ Ok run) where
+      one : ((read_fields run_fields part next).end ≡ Ok run.next) × (run.sum ≡ sced_reserve (run_of (read_fields run_fields part next).values))
       one = read_run (read_fields run_fields part next) (sym is ∙ told)
 
-      pub reserve_small : nat_abs reserve ≤ 900000000
-      reserve_small = rw one.1 (sced_bounded (read_fields run_fields part next).values (run_bounded part next after one.0))
+      pub reserve_small : nat_abs run.sum ≤ 900000000
+      reserve_small = rw one.1 (sced_bounded (read_fields run_fields part next).values (run_bounded part next run.next one.0))
 
-      pub runs_more : RunsRead runs part (sum +ℤ reserve) after (i + 1)
+      pub runs_more : RunsRead runs part (sum +ℤ run.sum) run.next (i + 1)
       runs_more =
           record {
             some = omega arith;
-            small = omega (arith, so_far.small, abs_add sum reserve, reserve_small);
-            rest = rw (so_far.rest, one_less, run_read (runs - (i + 1)) part next after one.0, one.1) (with_sums sum (sced_reserve (run_of (read_fields run_fields part next).values)) (intervals_from (runs - (i + 1)) part after));
+            small = omega (arith, so_far.small, abs_add sum run.sum, reserve_small);
+            rest = rw (so_far.rest, one_less, run_read (runs - (i + 1)) part next run.next one.0, one.1) (with_sums sum (sced_reserve (run_of (read_fields run_fields part next).values)) (intervals_from (runs - (i + 1)) part run.next));
           }

@@ -1,5 +1,6 @@
 -- Document 01, "History to curves": one hour's text, its reserves, and the reserve error.
-use Rattle.std.specs.Prelude.{ℕ, zero, suc, List, [], ◌∷◌, ltb, ℤ, pos, neg_ℤ, nat_abs, ◌+ℤ◌, ◌-ℤ◌, length, drop, cond}
+use Rattle.text_refusal.specs.declared.refusal.Fault.{Fault}
+use Rattle.std.specs.Prelude.{ℕ, zero, suc, List, [], ◌∷◌, ltb, ℤ, pos, neg_ℤ, nat_abs, ◌+ℤ◌, ◌-ℤ◌, length, drop, cond, Result, Ok, Err}
 use Rattle.integer.specs.Floor.{floor_div}
 use Rattle.text_refusal.specs.Bytes.{bytes}
 use Rattle.text_refusal.specs.Refusal.{refusal_of}
@@ -8,11 +9,8 @@ use Rattle.text_line.specs.Field.{Field}
 use Rattle.text_number.specs.Field.{number_field}
 use Rattle.text_schema.specs.Schema.{Reading, read_fields, repeated, value}
 use Rattle.text_refusal.specs.declared.refusal.Refusal.{Refusal}
-use Rattle.text_line.specs.declared.Lines.{Lines}
-use Rattle.text_line.specs.declared.Lines.TheVariants as lines
 use Rattle.curve_group.specs.Season.{group_of}
-use Rattle.curve_hour.specs.declared.read.ReadHour.{ReadHour}
-use Rattle.curve_hour.specs.declared.read.ReadHour.TheVariants as read-hour
+use Rattle.curve_hour.specs.declared.read.HourlyError.{HourlyError}
 
 -- ---- the text
 
@@ -141,14 +139,14 @@ pub data HourAnswer : Type 0 where
   refused : Refusal → HourAnswer
 
 -- after the last run's lines: 9 where bytes follow
-abbrev pub after_runs : List ℕ → Hour → List Run → Lines → HourAnswer
-after_runs text hour runs (lines.Refused found) = refused (refusal_of text found)
-after_runs text hour runs (lines.Read stop) = read hour runs
+abbrev pub after_runs : List ℕ → Hour → List Run → Result ℕ Fault → HourAnswer
+after_runs text hour runs (Err found) = refused (refusal_of text found)
+after_runs text hour runs (Ok stop) = read hour runs
 
 -- the runs' lines read, or the first refused one
-abbrev pub after_run_lines : List ℕ → Hour → List ℤ → Lines → HourAnswer
-after_run_lines text hour values (lines.Refused found) = refused (refusal_of text found)
-after_run_lines text hour values (lines.Read next) = after_runs text hour (runs_of (nat_abs hour.runs) values) (end_at text next)
+abbrev pub after_run_lines : List ℕ → Hour → List ℤ → Result ℕ Fault → HourAnswer
+after_run_lines text hour values (Err found) = refused (refusal_of text found)
+after_run_lines text hour values (Ok next) = after_runs text hour (runs_of (nat_abs hour.runs) values) (end_at text next)
 
 -- the runs' lines from a position on
 abbrev pub runs_at : List ℕ → Hour → ℕ → HourAnswer
@@ -157,9 +155,9 @@ runs_at text hour at =
     after_run_lines text hour reading.values reading.end
 
 -- the hour's own lines read, or the first refused one
-abbrev pub after_own_lines : List ℕ → List ℤ → Lines → HourAnswer
-after_own_lines text values (lines.Refused found) = refused (refusal_of text found)
-after_own_lines text values (lines.Read next) = runs_at text (hour_of values) next
+abbrev pub after_own_lines : List ℕ → List ℤ → Result ℕ Fault → HourAnswer
+after_own_lines text values (Err found) = refused (refusal_of text found)
+after_own_lines text values (Ok next) = runs_at text (hour_of values) next
 
 unfoldable pub hour_in : List ℕ → HourAnswer
 hour_in text =
@@ -191,6 +189,6 @@ abbrev pub hour_group : Hour → ℕ
 hour_group h = group_of (nat_abs h.month) (nat_abs h.hour)
 
 -- the group and the error of an hour that was read
-abbrev pub error_answer : HourAnswer → ReadHour
-error_answer (refused found) = read-hour.Refused found
-error_answer (read h rs) = read-hour.Error (hour_group h) (error_of h rs)
+abbrev pub error_answer : HourAnswer → Result HourlyError Refusal
+error_answer (refused found) = Err found
+error_answer (read h rs) = Ok (record { group = hour_group h; error = error_of h rs })

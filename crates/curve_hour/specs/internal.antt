@@ -1,2 +1,3 @@
 -- Internals: what the contracts of private functions say. No definition to believe, and no statement, rests on these.
 pub mod Intervals
+pub mod Ranges

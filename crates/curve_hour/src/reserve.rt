@@ -1,55 +1,110 @@
-// The reserves of an hour and of its SCED runs, and the reserve error, from the values read.
-ghost use Rattle.std.specs.Prelude.{◌≡◌, ◌≤◌, ◌<◌, ◌+◌, nat_abs, ◌+ℤ◌, ◌-ℤ◌, length};
-ghost use Rattle.text_schema.specs.Schema.{value};
-ghost use Rattle.curve_hour.specs.Hour.{hour_of, hour_ahead, run_of, sced_reserve};
-ghost use Rattle.curve_hour.specs.internal.Intervals.{Bounded};
+// The values of an hour, by name, and the reserves that they make.
+ghost use Rattle.std.specs.Prelude.{◌≡◌, ◌≤◌, nat_abs, ◌+ℤ◌, ◌-ℤ◌};
+ghost use Rattle.curve_hour.specs.Hour.{Hour, hour_of, hour_ahead, hour_group};
+ghost use Rattle.curve_hour.specs.internal.Ranges.{HourInRange};
 
-// A reserve with one more term, or with one term subtracted: the value at a place.
-fn more(reserve: i64, v: &[i64], place: usize) -> i64
-    requires { (place < length v.now) × (nat_abs reserve ≤ 2000000000) × Bounded 100000000 v.now }
-    ensures { (result ≡ reserve +ℤ value v.now place) × (nat_abs result ≤ nat_abs reserve + 100000000) }
-{
-    reserve + v[place]
+use curve_group::group_of;
+use integer::magnitude;
+use std::marker::Model;
+
+// The values of an hour's own lines, each in its range.
+#[derive(Drop)]
+pub(crate) struct HourValues {
+    month: i64,
+    hour: i64,
+    ongen: i64,
+    load: i64,
+    tie: i64,
+    ns: i64,
+    reg: i64,
+    rrs: i64,
+    nclr: i64,
+    offns: i64,
+    cold30: i64,
+    shed: i64,
+    runs: i64,
 }
 
-fn subtracted(reserve: i64, v: &[i64], place: usize) -> i64
-    requires { (place < length v.now) × (nat_abs reserve ≤ 2000000000) × Bounded 100000000 v.now }
-    ensures { (result ≡ reserve -ℤ value v.now place) × (nat_abs result ≤ nat_abs reserve + 100000000) }
-{
-    reserve - v[place]
+impl Model for HourValues {
+    ghost Value = { Hour };
+
+    ghost view = { λ h. record { month = h.month; hour = h.hour; ongen = h.ongen; load = h.load; tie = h.tie; ns = h.ns; reg = h.reg; rrs = h.rrs; nclr = h.nclr; offns = h.offns; cold30 = h.cold30; shed = h.shed; runs = h.runs } };
+
+    ghost invariant = { λ h. HourInRange (record { month = h.month; hour = h.hour; ongen = h.ongen; load = h.load; tie = h.tie; ns = h.ns; reg = h.reg; rrs = h.rrs; nclr = h.nclr; offns = h.offns; cold30 = h.cold30; shed = h.shed; runs = h.runs }) };
 }
 
-// A reserve with three more terms, from a place on.
-fn three_more(reserve: i64, v: &[i64], from: usize) -> i64
-    requires { (from + 3 ≤ length v.now) × (nat_abs reserve ≤ 600000000) × Bounded 100000000 v.now }
-    ensures { (result ≡ reserve +ℤ value v.now from +ℤ value v.now (from + 1) +ℤ value v.now (from + 2)) × (nat_abs result ≤ nat_abs reserve + 300000000) }
-{
-    more(more(more(reserve, v, from), v, from + 1), v, from + 2)
-}
+impl HourValues {
+    // The values in the order of their lines.
+    pub(crate) fn of(values: &[i64; 13]) -> HourValues
+        requires { HourInRange (hour_of values.now) }
+        ensures { result ≡ hour_of values.now }
+    {
+        let [
+            month,
+            hour,
+            ongen,
+            load,
+            tie,
+            ns,
+            reg,
+            rrs,
+            nclr,
+            offns,
+            cold30,
+            shed,
+            runs,
+        ] = *values;
+        HourValues {
+            month,
+            hour,
+            ongen,
+            load,
+            tie,
+            ns,
+            reg,
+            rrs,
+            nclr,
+            offns,
+            cold30,
+            shed,
+            runs,
+        }
+    }
 
-// HA of an hour's values.
-fn hour_ahead(v: &[i64]) -> i64
-    requires { (length v.now ≡ 13) × Bounded 100000000 v.now }
-    ensures { (result ≡ hour_ahead (hour_of v.now)) × (nat_abs result ≤ 900000000) }
-{
-    let net = subtracted(subtracted(v[2], v, 3), v, 4);
-    three_more(three_more(net, v, 5), v, 8)
-}
+    // HA.
+    fn ahead(&self) -> i64
+        ensures reserve { result ≡ hour_ahead self.now }
+        ensures small { nat_abs result ≤ 900000000 }
+    {
+        self.ongen - self.load - self.tie
+            + self.ns
+            + self.reg
+            + self.rrs
+            + self.nclr
+            + self.offns
+            + self.cold30
+    }
 
-// SCED of a run's values.
-pub(crate) fn sced_reserve(v: &[i64]) -> i64
-    requires { (length v.now ≡ 9) × Bounded 100000000 v.now }
-    ensures { result ≡ sced_reserve (run_of v.now) }
-{
-    let on_line = three_more(subtracted(v[0], v, 1), v, 2);
-    subtracted(three_more(on_line, v, 5), v, 8)
-}
+    // The group of the hour's month and hour.
+    pub(crate) fn group(&self) -> u64
+        ensures { result ≡ hour_group self.now }
+    {
+        group_of(magnitude(self.month), magnitude(self.hour))
+    }
 
-// The reserve error of an hour's values, given the mean of SCED over its runs.
-pub(crate) fn reserve_error(v: &[i64], mean: i64) -> i64
-    requires { (length v.now ≡ 13) × (nat_abs mean ≤ 900000000) × Bounded 100000000 v.now }
-    ensures { result ≡ hour_ahead (hour_of v.now) -ℤ mean +ℤ (hour_of v.now).shed }
-{
-    let shed = v[11];
-    hour_ahead(v) - mean + shed
+    // How many runs the hour has.
+    pub(crate) fn runs(&self) -> u64
+        ensures counted { result ≡ nat_abs self.now.runs }
+        ensures few { result ≤ 60 }
+    {
+        magnitude(self.runs)
+    }
+
+    // The reserve error, given the mean of SCED over the runs.
+    pub(crate) fn error(&self, mean: i64) -> i64
+        requires { nat_abs mean ≤ 900000000 }
+        ensures { result ≡ hour_ahead self.now -ℤ mean +ℤ self.now.shed }
+    {
+        self.ahead() - mean + self.shed
+    }
 }

@@ -6,7 +6,7 @@ use mathlib.Core.Path.{◌≡◌}
 use lib.ListN.{length}
 use borrow.Author.Tests.{le-leb, lt-leb}
 use Rattle.text_refusal.specs.Answer.{refusal}
-use Rattle.text_refusal.specs.declared.answer.Answer.TheVariants as answer
+use Rattle.std.specs.Prelude.{Ok}
 use Rattle.text_writer.specs.Write.{laid_at}
 use Rattle.curve_set.specs.Curves.{curves_in_range}
 use Rattle.curve_set.specs.declared.CurveSet.{CurveSet}
@@ -33,7 +33,7 @@ module _ (curves : CurveSet) (buffer : List ℕ) where
       short_stays = rw (inside, lt-leb page_length (length buffer) short)
 
     module _ (room : page_length ≤ length buffer) where
-      pub page_written : writing_page curves buffer ≡ answer.Accepted
+      pub page_written : writing_page curves buffer ≡ Ok tt
       unfolding writing_page
       page_written = rw (inside, le-leb page_length (length buffer) room)
 

@@ -1,9 +1,7 @@
 -- Document 02, W-201: the curve page, to pin up and compare seasons on: 24 rows in group order, each exactly 72 bytes.
-use Rattle.std.specs.Prelude.{ℕ, zero, suc, ◌≡◌, ◌&&◌, cond, List, [], ◌∷◌, ◌++◌, leb, ℤ, pos, nat_abs, ◌+ℤ◌, length, get_or}
-use Rattle.text_refusal.specs.Answer.{refusal}
+use Rattle.std.specs.Prelude.{ℕ, zero, suc, ◌≡◌, ◌&&◌, cond, List, [], ◌∷◌, ◌++◌, leb, ℤ, pos, nat_abs, ◌+ℤ◌, length, get_or, Ok}
+use Rattle.text_refusal.specs.Answer.{Answer, refusal}
 use Rattle.text_refusal.specs.Bytes.{bytes}
-use Rattle.text_refusal.specs.declared.answer.Answer.{Answer}
-use Rattle.text_refusal.specs.declared.answer.Answer.TheVariants as answer
 use Rattle.text_number.specs.Number.{written_number}
 use Rattle.text_writer.specs.Row.{aligned_right, padded_right}
 use Rattle.text_writer.specs.Write.{laid_at}
@@ -88,7 +86,7 @@ page_length = 1728
 -- ---- writing: 1, then 14 for a shorter buffer; bytes after the page stay, and a refused write leaves the buffer
 
 unfoldable pub writing_page : CurveSet → List ℕ → Answer
-writing_page curves buffer = cond (curves_in_range curves) (cond (leb page_length (length buffer)) answer.Accepted (refusal 14 0)) (refusal 1 0)
+writing_page curves buffer = cond (curves_in_range curves) (cond (leb page_length (length buffer)) (Ok tt) (refusal 14 0)) (refusal 1 0)
 
 -- the buffer after writing
 unfoldable pub page_buffer : CurveSet → List ℕ → List ℕ

@@ -11,9 +11,7 @@ use curve_probability::offline_probabilities;
 use curve_set::{CurveSet, Pair, curves_in_range};
 use integer::magnitude;
 use text_line::piece::part;
-use text_refusal::answer::Answer;
 use text_refusal::refusal::Refusal;
-use text_writer::Written;
 use text_writer::row::write_row;
 
 // The names of the four seasons, each padded right to 6.
@@ -36,16 +34,20 @@ fn row_values(group: usize, pair: Pair) -> [i64; 7]
     let block = (group % 6) as i64;
     let mean = pair.mean as i32;
     let spread = magnitude(pair.spread) as u32;
-    let p = offline_probabilities(ABOVE, mean, spread);
-    let first = p[0] as i64;
-    let second = p[1] as i64;
-    let third = p[2] as i64;
-    let fourth = p[3] as i64;
-    [block, pair.mean, pair.spread, first, second, third, fourth]
+    let [first, second, third, fourth] = offline_probabilities(ABOVE, mean, spread);
+    [
+        block,
+        pair.mean,
+        pair.spread,
+        first as i64,
+        second as i64,
+        third as i64,
+        fourth as i64,
+    ]
 }
 
 // The row of a group at its place.
-fn put_row(buffer: &mut [u8], group: usize, pair: Pair) -> Written
+fn put_row(buffer: &mut [u8], group: usize, pair: Pair) -> Option<usize>
     requires fact_1 { pair_in_range pair ≡ true }
     requires fact_2 { group < 24 }
     ensures { TextWritten (page_row (pos 0) group pair) buffer.old (72 * group) buffer.new result }
@@ -67,27 +69,25 @@ fn put_rows(buffer: &mut [u8], curves: CurveSet)
     requires fact_2 { page_length ≤ length buffer.old }
     ensures { buffer.new ≡ laid_at buffer.old 0 (page_of curves) }
 {
-    let mut group: usize = 0;
-    while group < 24 {
-        let pair = curves.pairs[group];
-        put_row(buffer, group, pair);
-        group += 1;
+    for (group, pair) in curves.pairs.iter().enumerate() {
+        put_row(buffer, group, *pair);
     }
 }
 
 // A curve set's page written into a lent buffer.
-pub fn write_page(curves: CurveSet, buffer: &mut [u8]) -> Answer
+#[tactic(auto, unfolding(crate::specs::Page::writing_page, crate::specs::Page::page_buffer))]
+pub fn write_page(curves: CurveSet, buffer: &mut [u8]) -> Result<(), Refusal>
     ensures { PageWritten curves buffer.old buffer.new result }
 {
     if !curves_in_range(curves) {
-        return Answer::Refused(Refusal { number: 1, line: 0 });
+        return Err(Refusal { number: 1, line: 0 });
     }
     if buffer.len() < PAGE_BYTES {
-        return Answer::Refused(Refusal {
+        return Err(Refusal {
             number: 14,
             line: 0,
         });
     }
     put_rows(buffer, curves);
-    Answer::Accepted
+    Ok(())
 }

@@ -1,2 +1,3 @@
 -- Laws that the functions and crates above cite.
+pub mod Distance
 pub mod ProbabilityOrder

@@ -3,10 +3,11 @@ use Prim.Native.Nat.{ℕ, zero, suc, ◌≤◌, ◌<◌}
 use native.Mathlib.Omega.{arith}
 use mathlib.Core.Bool.{Bool, true, ◌&&◌}
 use mathlib.Core.List.{List, [], ◌∷◌}
-use mathlib.Core.Path.{◌≡◌, refl}
+use mathlib.Core.Path.{◌≡◌, refl, ap}
 use lib.IntN.{ℤ, pos, nat_abs}
 use lib.ListN.{length, get_or, replicate}
 use lib.Signed.{◌≤ℤ◌}
+use Rattle.std.specs.List.{list_all}
 use Rattle.integer.proofs.Ranges.{within_low, within_high}
 use Rattle.integer.proofs.Bounds.{abs_bound}
 use Rattle.integer.proofs.Difference.{view, to_ℕ}
@@ -42,6 +43,12 @@ pair_range pair e =
     record { mean = and_left mean spread e; spread = and_right mean spread e }
 
 -- ---- pairs in range, one after the other
+
+-- a test of every pair
+pub every_pair : (pairs : List Pair) → list_all pair_in_range pairs ≡ pairs_in_range pairs
+unfolding pairs_in_range
+every_pair [] = refl
+every_pair (pair ∷ pairs) = ap (λ (rest : Bool). pair_in_range pair && rest) (every_pair pairs)
 
 pub no_pairs_in_range : pairs_in_range [] ≡ true
 unfolding pairs_in_range

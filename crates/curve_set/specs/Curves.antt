@@ -1,10 +1,9 @@
 -- Document 01, "History to curves": the curve set, and the range of each of its values.
-use Rattle.std.specs.Prelude.{Bool, true, ◌&&◌, List, [], ◌∷◌, ℤ, pos, neg_ℤ, replicate}
+use Rattle.std.specs.Prelude.{Bool, true, ◌&&◌, List, [], ◌∷◌, ℕ, ℤ, pos, neg_ℤ, replicate, Result, Err}
 use Rattle.integer.specs.Range.{within}
-use Rattle.text_refusal.specs.declared.answer.Answer.{Answer}
+use Rattle.text_refusal.specs.declared.refusal.Refusal.{Refusal}
 use Rattle.curve_set.specs.declared.Pair.{Pair}
 use Rattle.curve_set.specs.declared.CurveSet.{CurveSet}
-use Rattle.curve_set.specs.declared.Curves.{Curves}
 
 -- ---- the ranges, from which both the test of a value and its line are made
 
@@ -51,16 +50,11 @@ pairs_in_range (pair ∷ pairs) = pair_in_range pair && pairs_in_range pairs
 unfoldable pub curves_in_range : CurveSet → Bool
 curves_in_range curves = voll_in_range curves.voll && (floor_in_range curves.floor && pairs_in_range curves.pairs)
 
--- ---- refused curves are no curves
-
 -- a curve set with the same pair in each group
 abbrev pub even_curves : ℤ → ℤ → ℤ → ℤ → CurveSet
 even_curves voll floor mean spread = record { voll = voll; floor = floor; pairs = replicate 24 (record { mean = mean; spread = spread }) }
 
--- all zeros
-abbrev pub no_curves : CurveSet
-no_curves = even_curves (pos 0) (pos 0) (pos 0) (pos 0)
+-- ---- refused curves are no curves: a refusal's number and line alone
 
--- no curves, and the refusal
-abbrev pub refused_curves : Answer → Curves
-refused_curves refused = record { set = no_curves; answer = refused }
+abbrev pub refused_curves : ℕ → ℕ → Result CurveSet Refusal
+refused_curves number line = Err (record { number = number; line = line })

@@ -4,11 +4,9 @@
 pub mod values;
 
 ghost use Rattle.std.specs.Prelude.{◌≡◌};
-ghost use Rattle.text_refusal.specs.Answer.{refusal};
 ghost use Rattle.curve_set.specs.Curves.{voll_in_range, floor_in_range, pair_in_range, pairs_in_range, curves_in_range, refused_curves};
 
 use integer::range::is_within;
-use text_refusal::answer::Answer;
 use text_refusal::refusal::Refusal;
 
 // The least and the greatest VOLL, X, mean and spread.
@@ -43,26 +41,11 @@ pub struct CurveSet {
     pub pairs: [Pair; 24],
 }
 
-// A curve set that was read or settled; on a refusal all of it is zero.
-#[derive(Clone, Copy)]
-pub struct Curves {
-    pub set: CurveSet,
-    pub answer: Answer,
-}
-
-// No curves, and the refusal.
-pub fn refused_curves(number: u64, line: usize) -> Curves
-    ensures { result ≡ refused_curves (refusal number line) }
+// No curves, but the refusal.
+pub fn refused_curves(number: u64, line: usize) -> Result<CurveSet, Refusal>
+    ensures { result ≡ refused_curves number line }
 {
-    let pairs = [Pair { mean: 0, spread: 0 }; 24];
-    Curves {
-        set: CurveSet {
-            voll: 0,
-            floor: 0,
-            pairs,
-        },
-        answer: Answer::Refused(Refusal { number, line }),
-    }
+    Err(Refusal { number, line })
 }
 
 // Whether VOLL is in its range.
@@ -89,18 +72,10 @@ fn pair_in_range(pair: Pair) -> bool
 }
 
 // Whether each pair is in range.
-fn pairs_in_range(curves: CurveSet) -> bool
-    ensures { result ≡ pairs_in_range curves.pairs }
+fn pairs_in_range(pairs: &[Pair; 24]) -> bool
+    ensures { result ≡ pairs_in_range pairs.now }
 {
-    let mut i: usize = 0;
-    while i < 24 {
-        let pair = curves.pairs[i];
-        if !pair_in_range(pair) {
-            return false;
-        }
-        i += 1;
-    }
-    true
+    pairs.iter().all(|pair| pair_in_range(*pair))
 }
 
 // Whether each value of a curve set is in its range.
@@ -110,6 +85,6 @@ pub fn curves_in_range(curves: CurveSet) -> bool
 {
     let voll = voll_in_range(curves.voll);
     let floor = floor_in_range(curves.floor);
-    let pairs = pairs_in_range(curves);
+    let pairs = pairs_in_range(&curves.pairs);
     voll & (floor & pairs)
 }

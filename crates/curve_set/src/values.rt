@@ -29,10 +29,8 @@ pub fn values_of(curves: CurveSet) -> [i64; 50]
     let mut values = [0i64; 50];
     values[0] = voll;
     values[1] = floor;
-    let mut i: usize = 0;
-    while i < 24 {
-        lay_pair(&mut values, i, curves.pairs[i]);
-        i += 1;
+    for group in 0..24 {
+        lay_pair(&mut values, group, curves.pairs[group]);
     }
     values
 }
@@ -52,10 +50,8 @@ pub fn curves_of(values: [i64; 50]) -> CurveSet
     ensures { result ≡ curves_of values }
 {
     let mut pairs = [Pair { mean: 0, spread: 0 }; 24];
-    let mut i: usize = 0;
-    while i < 24 {
-        pairs[i] = pair_at(&values, i);
-        i += 1;
+    for group in 0..24 {
+        pairs[group] = pair_at(&values, group);
     }
     let voll = values[0];
     let floor = values[1];

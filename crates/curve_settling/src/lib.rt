@@ -36,18 +36,15 @@ fn settle_groups(history: Record, voll: i64, floor: i64) -> Curves
     ensures { result ≡ settled_curves history voll floor }
 {
     let mut pairs = [Pair { mean: 0, spread: 0 }; 24];
-    let mut i: usize = 0;
-    while i < 24 {
-        let g = history.groups[i];
+    for (i, g) in history.groups.iter().enumerate() {
         if g.count < 2 {
             return refused_curves(12, i);
         }
-        let pair = pair_of(g);
+        let pair = pair_of(*g);
         if pair.spread == 0 {
             return refused_curves(13, i);
         }
         pairs[i] = pair;
-        i += 1;
     }
     Curves {
         set: CurveSet { voll, floor, pairs },
@@ -56,16 +53,14 @@ fn settle_groups(history: Record, voll: i64, floor: i64) -> Curves
 }
 
 // The curves of a record, with VOLL in cents per MWh and the minimum contingency level X in kW.
+#[tactic(auto, unfolding(crate::specs::Settle::settled))]
 pub fn settle(history: Record, voll: i64, floor: i64) -> Curves
     ensures { result ≡ settled history voll floor }
 {
     if !record_possible(history) {
         return refused_curves(1, 0);
     }
-    if !voll_in_range(voll) {
-        return refused_curves(7, 0);
-    }
-    if !floor_in_range(floor) {
+    if !voll_in_range(voll) || !floor_in_range(floor) {
         return refused_curves(7, 0);
     }
     settle_groups(history, voll, floor)

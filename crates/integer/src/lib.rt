@@ -18,18 +18,19 @@ fn complement(a: i64) -> u64
 pub fn magnitude(a: i64) -> u64
     ensures { result ≡ nat_abs a }
 {
-    if a < 0 { complement(a) + 1 } else { a as u64 }
+    a.unsigned_abs()
 }
 
 // The quotient, and 0 by 0.
 fn quotient(a: u64, n: u64) -> u64
     ensures { result ≡ a / n }
 {
-    if n == 0 { 0 } else { a / n }
+    a.checked_div(n).unwrap_or(0)
 }
 
 // Division rounded toward minus infinity, by a divisor that need not fit a signed number. By 0 it is 0, and -1 for a
 // negative number.
+#[tactic(auto, using(std::proofs::lemmas::Int::ints), unfolding(crate::specs::Floor::floor_div))]
 pub fn floor_div(a: i64, n: u64) -> i64
     ensures { result ≡ floor_div a n }
 {

@@ -6,8 +6,5 @@ ghost use Rattle.integer.specs.Range.{within};
 pub fn is_within(z: i64, low: i64, high: i64) -> bool
     ensures { result ≡ within low high z }
 {
-    if z < low {
-        return false;
-    }
-    z <= high
+    low <= z && z <= high
 }

@@ -3,8 +3,8 @@
 use Prim.Native.Nat.{ℕ, ◌+◌, ◌≤◌}
 use native.Mathlib.Omega.{arith}
 use mathlib.Core.Bool.{Bool, true, false, cond}
-use mathlib.Core.List.{List, [], ◌++◌}
-use mathlib.Core.Path.{◌≡◌, refl, sym, ◌∙◌}
+use mathlib.Core.List.{List, [], ◌++◌, map}
+use mathlib.Core.Path.{◌≡◌, refl, sym, ap, ◌∙◌}
 use borrow.Author.Tests.{eq-eqb, ne_eqb, eqb-true}
 use lib.Dec.{eqb}
 use lib.IntN.{ℤ}
@@ -21,8 +21,10 @@ use Rattle.pricing_sums.proofs.Headers.{header_bound}
 use Rattle.pricing_resource.specs.Suspect.{suspect_line}
 use Rattle.pricing_snapshot.specs.Snapshot.{header_fields, resources_of}
 use Rattle.pricing_snapshot.proofs.HeaderLines.{header_lines_lem, header_refused}
-use Rattle.pricing_held.specs.Rows.{held_count, header_held, held_rows, contents_held}
+use Rattle.pricing_held.specs.Rows.{Row, held_count, header_held, held_rows, entry_of, contents_held}
 use Rattle.pricing_held.specs.Lines.{header_checked, rows_lines, held_lines, suspect_answer, held_answer, held_text}
+use Rattle.pricing_held.specs.internal.Checks.{resource_in, rows_in}
+use Rattle.pricing_held.proofs.Suspects.{rows_resources}
 
 module _ (header : List ℤ) (ids : List ℕ) (numbers : List ℤ) where
   abbrev the_header : Header
@@ -41,9 +43,22 @@ module _ (header : List ℤ) (ids : List ℕ) (numbers : List ℤ) where
   abbrev suspect : ℕ
   suspect = suspect_line (resources_of (contents_held header ids numbers).entries)
 
+  -- by the rows of numbers
+  pub suspect_held : (rows : List (List ℤ)) → rows_in ids 0 rows ≡ held_rows ids numbers → suspect_line (map resource_in rows) ≡ suspect
+  unfolding contents_held
+  suspect_held rows e = ap suspect_line (sym (rows_resources ids 0 rows)) ∙ ap (λ (held : List Row). suspect_line (resources_of (map entry_of held))) e
+
   held_answer_lem : held_answer header ids numbers ≡ followed_by (first_refused 1 (held_lines header ids numbers)) (suspect_answer suspect)
   unfolding held_answer
   held_answer_lem = refl
+
+  -- the line that the header's numbers give
+  pub fault_held : {count line : ℕ} {h : Header} → count ≡ held_count ids numbers → h ≡ header_held header count → line ≡ header_fault h → line ≡ header_fault the_header
+  fault_held counted made told = told ∙ ap header_fault (made ∙ ap (header_held header) counted)
+
+  -- where it is none there are few rows, as long as the slices say
+  pub few_held : {line count : ℕ} → line ≡ header_fault the_header → line ≡ 0 → count ≡ held_count ids numbers → count ≤ 4096
+  few_held is none counted = omega (arith, (header_bound the_header (sym is ∙ none)).count)
 
   module _ {line : ℕ} (is : line ≡ header_fault the_header) where
     pub header_decides : (line ≡ 0 → ⊥) → refusal 7 line ≡ held_answer header ids numbers

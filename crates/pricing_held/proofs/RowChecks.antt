@@ -1,13 +1,11 @@
 -- Laws on checking a row: its id is ill-formed, stands above or is new, and then the rest of its lines decide.
 use Prim.Native.Nat.{ℕ, zero, suc, ◌+◌, ◌*◌, ◌≤◌, ◌<◌}
-use native.Mathlib.Nat.{add-zero}
 use native.Mathlib.Omega.{arith}
 use mathlib.Core.Bool.{true, false}
 use mathlib.Core.List.{List, ◌∷◌}
 use mathlib.Core.Path.{◌≡◌, refl, sym, ap, ◌∙◌}
-use lib.IntN.{ℤ, nat_abs}
-use lib.ListN.{take, drop, get_or, set}
-use lib.Seq.{get_or-drop, drop-drop}
+use lib.IntN.{ℤ}
+use lib.ListN.{get_or, set}
 use Rattle.text_refusal.specs.Answer.{refusal}
 use Rattle.text_refusal.specs.declared.answer.Answer.{Answer}
 use Rattle.text_id.specs.Id.{id_in}
@@ -19,9 +17,9 @@ use Rattle.text_id_table.proofs.Table.{slot_filled, slot_empty, table_more}
 use Rattle.text_schema.specs.Schema.{value}
 use Rattle.text_schema.specs.Checked.{CheckedLine, checked_line, first_refused}
 use Rattle.pricing_resource_text.specs.Resource.{kind_field}
-use Rattle.pricing_held.specs.Rows.{Row, place_of, row_at}
+use Rattle.pricing_held.specs.Rows.{Row, place_of}
 use Rattle.pricing_held.specs.Lines.{id_line, lines_of_kind, row_lines}
-use Rattle.pricing_held.specs.internal.Checks.{row_of, RowChecked}
+use Rattle.pricing_held.specs.internal.Checks.{row_in, row_of, RowChecked}
 use Rattle.pricing_held.proofs.RowLines.{line_refused, line_passed}
 
 -- ---- the id's line
@@ -48,58 +46,48 @@ lines_alike (suc (suc (suc zero))) row row' s n m = rw (s, n, m)
 lines_alike (suc (suc (suc (suc zero)))) row row' s n m = rw (n, m)
 lines_alike (suc (suc (suc (suc (suc k))))) row row' s n m = rw (n, m)
 
-module _ (ids : List ℕ) (numbers : List ℤ) (i : ℕ) {values : List ℤ} (there : values ≡ drop (9 * i) numbers) where
+module _ (id : List ℕ) (values : List ℤ) where
   -- the lines after the id's
   abbrev after_id : List CheckedLine
   after_id = checked_line kind_field (place_of (value values 0)) ∷ lines_of_kind (place_of (value values 0)) (row_of values)
 
-  pub row_lines_lem : (above : List (List ℕ)) → row_lines above (row_at ids numbers i) ≡ id_line above (id_at 0 ids (32 * i)) ∷ after_id
-  unfolding row_lines row_at
+  pub row_lines_lem : (above : List (List ℕ)) → row_lines above (row_in id values) ≡ id_line above id ∷ after_id
+  unfolding row_lines
   row_lines_lem above =
-      let first : value values 0 ≡ value numbers (9 * i) = rw (there, get_or-drop, add-zero) in
-      let second : value values 1 ≡ value numbers (9 * i + 1) = rw (there, get_or-drop) in
-      let rest : take 6 (drop 2 values) ≡ take 6 (drop (9 * i + 2) numbers) = ap (λ (l : List ℤ). take 6 (drop 2 l)) there ∙ ap (take 6) (drop-drop 2 (9 * i) numbers) in
-      let marks : value values 8 ≡ value numbers (9 * i + 8) = rw (there, get_or-drop) in
-      let kind : ℕ = place_of (value values 0) in
-      ap (λ (k : ℕ). id_line above (id_at 0 ids (32 * i)) ∷ (checked_line kind_field k ∷ lines_of_kind k (row_at ids numbers i))) (ap place_of (sym first)) ∙
-      ap (λ (lines : List CheckedLine). id_line above (id_at 0 ids (32 * i)) ∷ (checked_line kind_field kind ∷ lines))
-      (sym (lines_alike kind (row_of values) (row_at ids numbers i) (ap place_of second) rest (ap nat_abs marks)))
-
-  pub row_id : (row_at ids numbers i).id ≡ id_at 0 ids (32 * i)
-  unfolding row_at
-  row_id = refl
+      ap (λ (lines : List CheckedLine). id_line above id ∷ (checked_line kind_field (place_of (value values 0)) ∷ lines))
+      (lines_alike (place_of (value values 0)) (row_in id values) (row_of values) refl refl refl)
 
 -- ---- what checking a row gives
 
-module _ (ids : List ℕ) (numbers : List ℤ) (i line : ℕ) {found : Id} (is : found ≡ id_in (id_at 0 ids (32 * i))) {starts : List ℕ} where
-  pub checked_ill_formed : {starts' : List ℕ} → found ≡ id.Malformed → RowChecked (row_at ids numbers i) line ids starts starts' (refusal 6 line)
+module _ (ids : List ℕ) (i : ℕ) (values : List ℤ) (line : ℕ) {found : Id} (is : found ≡ id_in (id_at 0 ids (32 * i))) {starts : List ℕ} where
+  pub checked_ill_formed : {starts' : List ℕ} → found ≡ id.Malformed → RowChecked (row_in (id_at 0 ids (32 * i)) values) line ids starts starts' (refusal 6 line)
   checked_ill_formed told =
       record {
         answers = λ above table one.
-            line_refused line 6 (id_line above (id_at 0 ids (32 * i))) (after_id ids numbers i refl) (id_ill_formed above (id_at 0 ids (32 * i)) (sym is ∙ told)) refl ∙
-            ap (first_refused line) (sym (row_lines_lem ids numbers i refl above));
+            line_refused line 6 (id_line above (id_at 0 ids (32 * i))) (after_id (id_at 0 ids (32 * i)) values) (id_ill_formed above (id_at 0 ids (32 * i)) (sym is ∙ told)) refl ∙
+            ap (first_refused line) (sym (row_lines_lem (id_at 0 ids (32 * i)) values above));
         table = λ above table one e. let z : ◌≡◌ {A = ℕ} 0 1 = cc in absurd (omega arith);
       }
 
   module _ (told : found ≡ id.Valid) {slot : ℕ} (at_slot : slot ≡ slot_of 0 ids starts (id_at 0 ids (32 * i))) where
-    pub checked_repeated : {starts' : List ℕ} → 0 < get_or starts slot 0 → RowChecked (row_at ids numbers i) line ids starts starts' (refusal 8 line)
+    pub checked_repeated : {starts' : List ℕ} → 0 < get_or starts slot 0 → RowChecked (row_in (id_at 0 ids (32 * i)) values) line ids starts starts' (refusal 8 line)
     checked_repeated some =
         record {
           answers = λ above table one.
-              line_refused line 8 (id_line above (id_at 0 ids (32 * i))) (after_id ids numbers i refl)
+              line_refused line 8 (id_line above (id_at 0 ids (32 * i))) (after_id (id_at 0 ids (32 * i)) values)
               (id_repeated above (id_at 0 ids (32 * i)) (sym is ∙ told) (slot_filled table one (id_at 0 ids (32 * i)) at_slot some)) refl ∙
-              ap (first_refused line) (sym (row_lines_lem ids numbers i refl above));
+              ap (first_refused line) (sym (row_lines_lem (id_at 0 ids (32 * i)) values above));
           table = λ above table one e. let z : ◌≡◌ {A = ℕ} 0 1 = cc in absurd (omega arith);
         }
 
     pub checked_new :
-        {values : List ℤ} (there : values ≡ drop (9 * i) numbers) {answer : Answer} → get_or starts slot 0 ≤ 0 → answer ≡ first_refused (line + 1) (after_id ids numbers i there) →
-        RowChecked (row_at ids numbers i) line ids starts (set starts slot (32 * i + 1)) answer
-    checked_new there none says =
+        {answer : Answer} → get_or starts slot 0 ≤ 0 → answer ≡ first_refused (line + 1) (after_id (id_at 0 ids (32 * i)) values) →
+        RowChecked (row_in (id_at 0 ids (32 * i)) values) line ids starts (set starts slot (32 * i + 1)) answer
+    checked_new none says =
         record {
           answers = λ above table one.
-              line_passed line (id_line above (id_at 0 ids (32 * i))) (after_id ids numbers i there)
+              line_passed line (id_line above (id_at 0 ids (32 * i))) (after_id (id_at 0 ids (32 * i)) values)
               (id_new above (id_at 0 ids (32 * i)) (sym is ∙ told) (slot_empty table one (id_at 0 ids (32 * i)) at_slot none)) says ∙
-              ap (first_refused line) (sym (row_lines_lem ids numbers i there above));
-          table = λ above table one e. rw (row_id ids numbers i there) (table_more table one (id_at 0 ids (32 * i)) at_slot none (32 * i) refl);
+              ap (first_refused line) (sym (row_lines_lem (id_at 0 ids (32 * i)) values above));
+          table = λ above table one e. table_more table one (id_at 0 ids (32 * i)) at_slot none (32 * i) refl;
         }

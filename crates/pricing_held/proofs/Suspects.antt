@@ -1,15 +1,15 @@
 -- Laws on the first line of a snapshot held as values that a mark turns back: the resources of the rows don't hang on the ids, and a verdict not on a number.
-use Prim.Native.Nat.{ℕ, zero, suc, ◌+◌, ◌-◌, ◌*◌, ◌%◌, ◌≤◌, ◌<◌}
-use native.Mathlib.Nat.{add-zero, sub-zero}
+use Prim.Native.Nat.{ℕ, zero, suc, ◌+◌, ◌*◌, ◌%◌, ◌≤◌, ◌<◌}
 use native.Mathlib.Numerals.{add-one}
 use native.Mathlib.Omega.{arith}
 use mathlib.Core.Bool.{Bool, true, false, cond}
-use mathlib.Core.List.{List, ◌∷◌, map}
+use mathlib.Core.List.{List, [], ◌∷◌, map}
 use mathlib.Core.Path.{◌≡◌, refl, sym, ap, ◌∙◌}
 use borrow.Author.Tests.{le-ltb}
 use lib.IntN.{ℤ, pos, nat_abs}
-use lib.ListN.{length, take, drop, length-drop}
-use lib.Seq.{get_or-take, get_or-drop, drop-drop, length-take-le}
+use lib.ListN.{length, take, drop, get_or, length-drop, drop_of_length-le}
+use lib.Seq.{drop-cons, get_or-take, get_or-drop, length-take-le}
+use Rattle.text_id_table.specs.Ids.{id_at}
 use Rattle.text_number.specs.Marked.{numbers_of, marks_of, marked_by}
 use Rattle.text_number.proofs.Marks.{by_take, by_numbers, by_marks}
 use Rattle.text_schema.specs.Schema.{value}
@@ -22,8 +22,8 @@ use Rattle.pricing_resource.specs.declared.Resource.TheVariants as resource
 use Rattle.pricing_resource.proofs.Suspects.{place_unmarked, generator_place, controllable_place, load_place, suspect_none, suspect_here, suspect_later}
 use Rattle.pricing_resource_text.specs.Resource.{status_of}
 use Rattle.pricing_snapshot.specs.Snapshot.{resources_of}
-use Rattle.pricing_held.specs.Rows.{Row, place_of, row_at, rows_from, resource_of_kind, entry_of}
-use Rattle.pricing_held.specs.internal.Checks.{row_of, kind_of, flag_of, resource_in, resources_from, line_count}
+use Rattle.pricing_held.specs.Rows.{Row, place_of, resource_of_kind, entry_of}
+use Rattle.pricing_held.specs.internal.Checks.{row_in, row_of, rows_in, kind_of, flag_of, resource_in, line_count}
 use Rattle.pricing_held.proofs.RowsChecks.{count_most}
 
 -- ---- the resources of the rows
@@ -36,21 +36,11 @@ resource_alike (suc (suc (suc zero))) row row' s n m = rw (s, n, m)
 resource_alike (suc (suc (suc (suc zero)))) row row' s n m = rw (n, m)
 resource_alike (suc (suc (suc (suc (suc k))))) row row' s n m = rw (n, m)
 
-row_resource : (ids : List ℕ) (numbers : List ℤ) (i : ℕ) → (entry_of (row_at ids numbers i)).resource ≡ resource_in (drop (9 * i) numbers)
-unfolding entry_of row_at
-row_resource ids numbers i =
-    let values : List ℤ = drop (9 * i) numbers in
-    let first : value values 0 ≡ value numbers (9 * i) = rw (get_or-drop, add-zero) in
-    let second : value values 1 ≡ value numbers (9 * i + 1) = rw get_or-drop in
-    let ninth : value values 8 ≡ value numbers (9 * i + 8) = rw get_or-drop in
-    let rest : take 6 (drop 2 values) ≡ take 6 (drop (9 * i + 2) numbers) = ap (take 6) (drop-drop 2 (9 * i) numbers) in
-    ap (λ (k : ℕ). resource_of_kind k (row_at ids numbers i)) (ap place_of (sym first)) ∙
-    sym (resource_alike (place_of (value values 0)) (row_of values) (row_at ids numbers i) (ap place_of second) rest (ap nat_abs ninth))
-
-pub rows_resources : (ids : List ℕ) (numbers : List ℤ) (i n : ℕ) → resources_of (map entry_of (rows_from ids numbers i n)) ≡ resources_from numbers i n
-unfolding rows_from resources_from
-rows_resources ids numbers i zero = refl
-rows_resources ids numbers i (suc n) = rw (row_resource ids numbers i, rows_resources ids numbers (suc i) n)
+pub rows_resources : (ids : List ℕ) (i : ℕ) (rows : List (List ℤ)) → resources_of (map entry_of (rows_in ids i rows)) ≡ map resource_in rows
+unfolding entry_of rows_in
+rows_resources ids i [] = refl
+rows_resources ids i (values ∷ rows) =
+    rw (resource_alike (place_of (value values 0)) (row_in (id_at 0 ids (32 * i)) values) (row_of values) refl refl refl, rows_resources ids (suc i) rows)
 
 -- ---- the place of one row
 
@@ -141,38 +131,29 @@ count_alike values = go (place_of (value values 0))
     go (suc (suc (suc (suc (suc k))))) = rw (le-ltb (suc (suc (suc (suc (suc k))))) 4 (omega arith))
 
 -- i rows are looked at, and none of them turns the snapshot back
-pub record SuspectsUnderWay (numbers : List ℤ) (count before i : ℕ) : Type 0 where
-  pub due : i ≤ count
-  pub few : count ≤ 4096
-  pub long : 9 * count ≤ length numbers
+pub record SuspectsUnderWay (rows : List (List ℤ)) (before i : ℕ) : Type 0 where
   pub small : before ≤ 8 + 9 * i
-  pub rest : suspect_line (resources_from numbers 0 count) ≡ suspect_from before (resources_from numbers i (count - i))
+  pub rest : suspect_line (map resource_in rows) ≡ suspect_from before (map resource_in (drop i rows))
 
-pub suspects_start : {numbers : List ℤ} {count : ℕ} → count ≤ 4096 → 9 * count ≤ length numbers → SuspectsUnderWay numbers count 8 0
-suspects_start {count = count} few long = record { due = omega arith; few = few; long = long; small = omega arith; rest = rw (sub-zero count) }
+pub suspects_start : {rows : List (List ℤ)} → SuspectsUnderWay rows 8 0
+suspects_start = record { small = omega arith; rest = refl }
 
-module _ {numbers : List ℤ} {count before i : ℕ} (so_far : SuspectsUnderWay numbers count before i) where
-  pub suspects_over : count ≤ i → 0 ≡ suspect_line (resources_from numbers 0 count)
-  unfolding resources_from
-  suspects_over h = let z : count - i ≡ 0 = omega arith in sym (so_far.rest ∙ rw z (suspect_none before))
+module _ {rows : List (List ℤ)} {before i : ℕ} (so_far : SuspectsUnderWay rows before i) where
+  pub suspects_over : length rows ≤ i → 0 ≡ suspect_line (map resource_in rows)
+  suspects_over h = sym (so_far.rest ∙ rw (drop_of_length-le rows {i = i} h) (suspect_none before))
 
-  module _ (more : i < count) {place : ℕ} (is : place ≡ suspect_place (resource_in (drop (9 * i) numbers))) where
-    one_due : suspect_line (resources_from numbers 0 count) ≡ suspect_from before (resource_in (drop (9 * i) numbers) ∷ resources_from numbers (suc i) (count - (i + 1)))
-    unfolding resources_from
-    one_due = let e : count - i ≡ suc (count - (i + 1)) = omega arith in so_far.rest ∙ rw e refl
+  module _ (more : i < length rows) {values : List ℤ} (this : values ≡ get_or rows i []) {place : ℕ} (is : place ≡ suspect_place (resource_in values)) where
+    one_due : suspect_line (map resource_in rows) ≡ suspect_from before (resource_in values ∷ map resource_in (drop (suc i) rows))
+    one_due = so_far.rest ∙ rw (drop-cons rows i [] more, ← this) refl
 
-    pub suspects_stop : (place ≡ 0 → ⊥) → before + place ≡ suspect_line (resources_from numbers 0 count)
+    pub suspects_stop : (place ≡ 0 → ⊥) → before + place ≡ suspect_line (map resource_in rows)
     suspects_stop found =
-        sym (one_due ∙ suspect_here before (resource_in (drop (9 * i) numbers)) (resources_from numbers (suc i) (count - (i + 1))) (rw is at found) ∙ ap (λ (n : ℕ). before + n) (sym is))
+        sym (one_due ∙ suspect_here before (resource_in values) (map resource_in (drop (suc i) rows)) (rw is at found) ∙ ap (λ (n : ℕ). before + n) (sym is))
 
-    pub suspects_next : place ≡ 0 → {count_of : ℕ} → count_of ≡ line_count (place_of (value numbers (9 * i))) → SuspectsUnderWay numbers count (before + count_of) (i + 1)
+    pub suspects_next : place ≡ 0 → {count_of : ℕ} → count_of ≡ line_count (place_of (value values 0)) → SuspectsUnderWay rows (before + count_of) (i + 1)
     suspects_next fine {count_of} counts =
-        let first : value (drop (9 * i) numbers) 0 ≡ value numbers (9 * i) = rw (get_or-drop, add-zero) in
-        let lines : count_of ≡ resource_line_count (resource_in (drop (9 * i) numbers)) = counts ∙ ap (λ (z : ℤ). line_count (place_of z)) (sym first) ∙ sym (count_alike (drop (9 * i) numbers)) in
+        let lines : count_of ≡ resource_line_count (resource_in values) = counts ∙ sym (count_alike values) in
         record {
-          due = omega arith;
-          few = so_far.few;
-          long = so_far.long;
-          small = omega (arith, so_far.small, counts, count_most (place_of (value numbers (9 * i))));
-          rest = one_due ∙ suspect_later before (resource_in (drop (9 * i) numbers)) (resources_from numbers (suc i) (count - (i + 1))) (sym is ∙ fine) ∙ rw (lines, add-one i);
+          small = omega (arith, so_far.small, counts, count_most (place_of (value values 0)));
+          rest = one_due ∙ suspect_later before (resource_in values) (map resource_in (drop (suc i) rows)) (sym is ∙ fine) ∙ rw (lines, add-one i);
         }

@@ -2,10 +2,11 @@
 // numbers and their marks. How many resources are held, and the first line of their text that would be refused.
 #![tactic(auto)]
 
-ghost use Rattle.std.specs.Prelude.{◌≡◌, ◌≤◌, []};
+ghost use Rattle.std.specs.Prelude.{◌≡◌, ◌≤◌, ◌*◌, [], length};
 ghost use Rattle.text_schema.specs.Checked.{first_refused};
-ghost use Rattle.pricing_held.specs.Rows.{held_count, place_of, rows_from, header_held};
+ghost use Rattle.pricing_held.specs.Rows.{held_count, place_of, header_held};
 ghost use Rattle.pricing_held.specs.Lines.{rows_lines, held_answer};
+ghost use Rattle.pricing_held.specs.internal.Checks.{rows_in};
 
 use crate::rows::check_rows;
 use crate::suspect::suspect_line;
@@ -23,12 +24,7 @@ mod values;
 pub fn held_count(ids: &[u8], numbers: &[i64]) -> usize
     ensures { result ≡ held_count ids.now numbers.now }
 {
-    let most = ids.len() / 32;
-    let rows = numbers.len() / 9;
-    if most < rows {
-        return most;
-    }
-    rows
+    (ids.len() / 32).min(numbers.len() / 9)
 }
 
 // A number as a place in a list of words: one below 0 stands outside the list, as one above does.
@@ -46,13 +42,7 @@ fn header_held(header: &[i64; 8], count: usize) -> Header
     requires { count ≤ 1152921504606846976 }
     ensures { result ≡ header_held header.now count }
 {
-    let month = header[0];
-    let hour = header[1];
-    let lambda = header[2];
-    let factor = header[3];
-    let prc = header[4];
-    let eea1 = header[5];
-    let short = header[6];
+    let [month, hour, lambda, factor, prc, eea1, short, _] = *header;
     Header {
         month,
         hour,
@@ -66,16 +56,16 @@ fn header_held(header: &[i64; 8], count: usize) -> Header
 }
 
 // The first refused line of the rows; where they are few, the table of their ids is small.
-fn rows_checked(ids: &[u8], numbers: &[i64], count: usize) -> Answer
-    requires { (count ≤ 4096) × (count ≤ held_count ids.now numbers.now) }
-    ensures { result ≡ first_refused 9 (rows_lines [] (rows_from ids.now numbers.now 0 count)) }
+fn rows_checked(ids: &[u8], rows: &[[i64; 9]]) -> Answer
+    requires { (length rows.now ≤ 4096) × (32 * length rows.now ≤ length ids.now) }
+    ensures { result ≡ first_refused 9 (rows_lines [] (rows_in ids.now 0 rows.now)) }
 {
-    if count <= 64 {
+    if rows.len() <= 64 {
         let mut starts = [0usize; 192];
-        return check_rows(ids, numbers, count, &mut starts);
+        return check_rows(ids, rows, &mut starts);
     }
     let mut starts = [0usize; 12288];
-    check_rows(ids, numbers, count, &mut starts)
+    check_rows(ids, rows, &mut starts)
 }
 
 // Whether the text of a snapshot held as values can be written, or its first refused line, or the first that a mark turns back.
@@ -87,11 +77,13 @@ pub fn held_check(header: &[i64; 8], ids: &[u8], numbers: &[i64]) -> Answer
     if line != 0 {
         return Answer::Refused(Refusal { number: 7, line });
     }
-    let found = rows_checked(ids, numbers, count);
+    let (rows, _) = numbers.as_chunks::<9>();
+    let rows = &rows[..count];
+    let found = rows_checked(ids, rows);
     let Answer::Accepted = found else {
         return found;
     };
-    let suspect = suspect_line(numbers, count);
+    let suspect = suspect_line(rows);
     if suspect != 0 {
         return Answer::Refused(Refusal {
             number: 15,

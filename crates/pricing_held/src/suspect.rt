@@ -1,7 +1,7 @@
 // The first line of a snapshot held as values that a mark turns back.
-ghost use Rattle.std.specs.Prelude.{◌≡◌, ◌≤◌, ◌*◌, length};
+ghost use Rattle.std.specs.Prelude.{◌≡◌, ◌≤◌, map, length};
 ghost use Rattle.pricing_resource.specs.Suspect.{suspect_place, suspect_line};
-ghost use Rattle.pricing_held.specs.internal.Checks.{kind_of, flag_of, resource_in, resources_from};
+ghost use Rattle.pricing_held.specs.internal.Checks.{kind_of, flag_of, resource_in};
 
 use crate::place_of;
 use crate::rows::row_lines;
@@ -35,8 +35,7 @@ fn flag_of(z: i64) -> i32
 // Which line of a row, the id's being 1, holds its first marked number where that turns the snapshot back; 0 where it does not. The verdict hangs on kind, status
 // and flag alone, so the other numbers are left out.
 #[tactic(auto, using(crate::proofs::Suspects::unmarked_place, crate::proofs::Suspects::generator_row, crate::proofs::Suspects::controllable_row, crate::proofs::Suspects::load_row))]
-fn row_place(values: &[i64]) -> usize
-    requires { 9 ≤ length values.now }
+fn row_place(values: &[i64; 9]) -> usize
     ensures { result ≡ suspect_place (resource_in values.now) }
 {
     let marks = magnitude(values[8]);
@@ -75,20 +74,18 @@ fn row_place(values: &[i64]) -> usize
     }))
 }
 
-// The first line of so many rows that a mark turns back, the first row's id standing at line 9; 0 where there is none.
-pub(crate) fn suspect_line(numbers: &[i64], count: usize) -> usize
-    requires { (count ≤ 4096) × (9 * count ≤ length numbers.now) }
-    ensures { result ≡ suspect_line (resources_from numbers.now 0 count) }
+// The first line of the rows that a mark turns back, the first row's id standing at line 9; 0 where there is none.
+pub(crate) fn suspect_line(rows: &[[i64; 9]]) -> usize
+    requires { length rows.now ≤ 4096 }
+    ensures { result ≡ suspect_line (map resource_in rows.now) }
 {
     let mut before: usize = 8;
-    let mut i: usize = 0;
-    while i < count {
-        let place = row_place(&numbers[9 * i..]);
+    for values in rows {
+        let place = row_place(values);
         if place != 0 {
             return before + place;
         }
-        before += row_lines(numbers, i);
-        i += 1;
+        before += row_lines(values);
     }
     0
 }

@@ -18,15 +18,13 @@ fn check_numbers(values: &[i64], lows: &[i64], highs: &[i64], line: usize) -> An
     requires { (length values.now ≡ length lows.now) × ((length values.now ≡ length highs.now) × ((length values.now ≤ 8) × (line ≤ 100000))) }
     ensures { result ≡ numbers_checked line lows.now highs.now values.now }
 {
-    let mut i: usize = 0;
-    while i < values.len() {
-        if !is_within(values[i], lows[i], highs[i]) {
+    for (i, value) in values.iter().enumerate() {
+        if !is_within(*value, lows[i], highs[i]) {
             return Answer::Refused(Refusal {
                 number: 7,
                 line: line + i,
             });
         }
-        i += 1;
     }
     Answer::Accepted
 }
@@ -46,8 +44,8 @@ fn check_flag(z: i64, marked: bool, line: usize) -> Answer
 
 // The numbers of a generator after its kind: its status, then five numbers and a flag, whose mark is the sixth.
 #[tactic(auto, using(crate::proofs::RowLines::status_refused, crate::proofs::RowLines::generator_refused, crate::proofs::RowLines::generator_checked))]
-fn check_generator(values: &[i64], line: usize) -> Answer
-    requires { (9 ≤ length values.now) × (line ≤ 90000) }
+fn check_generator(values: &[i64; 9], line: usize) -> Answer
+    requires { line ≤ 90000 }
     ensures { result ≡ first_refused line (lines_of_kind 0 (row_of values.now)) }
 {
     if 6 < place_of(values[1]) {
@@ -64,8 +62,8 @@ fn check_generator(values: &[i64], line: usize) -> Answer
 }
 
 // The numbers of a load after its kind: four numbers, of which the first is a flag in another load than a controllable one.
-fn check_load(values: &[i64], kind: usize, line: usize) -> Answer
-    requires { (9 ≤ length values.now) × ((line ≤ 90000) × ((4 ≤ kind) × (kind ≤ 5))) }
+fn check_load(values: &[i64; 9], kind: usize, line: usize) -> Answer
+    requires { (line ≤ 90000) × ((4 ≤ kind) × (kind ≤ 5)) }
     ensures { result ≡ first_refused line (lines_of_kind kind (row_of values.now)) }
 {
     if kind == 4 {
@@ -85,8 +83,8 @@ fn check_load(values: &[i64], kind: usize, line: usize) -> Answer
 
 // The numbers of a row, the kind's line first.
 #[tactic(auto, using(crate::proofs::RowLines::kind_refused, crate::proofs::RowLines::kind_passed, crate::proofs::RowLines::of_generator))]
-pub(crate) fn check_values(values: &[i64], line: usize) -> Answer
-    requires { (9 ≤ length values.now) × (line ≤ 80000) }
+pub(crate) fn check_values(values: &[i64; 9], line: usize) -> Answer
+    requires { line ≤ 80000 }
     ensures { result ≡ first_refused line (checked_line kind_field (place_of (value values.now 0)) ∷ lines_of_kind (place_of (value values.now 0)) (row_of values.now)) }
 {
     let kind = place_of(values[0]);

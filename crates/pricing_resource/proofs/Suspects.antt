@@ -1,9 +1,10 @@
 -- On which units a mark turns the snapshot back: that hangs on kind, status and flags alone; and the first marked number.
-use Prim.Native.Nat.{ℕ, zero, suc, ◌+◌, ◌-◌, ◌/◌, ◌%◌, ◌≤◌, ◌<◌}
+use Prim.Native.Nat.{ℕ, zero, suc, ◌+◌, ◌/◌, ◌%◌, ◌≤◌, ◌<◌, min}
 use native.Mathlib.Omega.{arith}
-use mathlib.Core.Path.{◌≡◌, refl, ap, ◌∙◌}
+use mathlib.Core.Path.{◌≡◌, refl}
 use mathlib.Core.Bool.{Bool, true, false, not, ◌&&◌, ◌||◌, cond}
 use mathlib.Core.List.{List, [], ◌∷◌}
+use lib.Count.{count_trailing_zeros, under}
 use lib.Dec.{eqb}
 use lib.IntN.{ℤ, pos, ◌*ℤ◌}
 use lib.Signed.{le_z, lt_z}
@@ -136,35 +137,22 @@ module _ (one : Resource) where
   unfolding suspect_place
   place_suspect e n = rw (e, ne_eqb (marks one) 0 n)
 
--- counting is under way: so many unmarked numbers are passed, and the marks of the others are left
-pub record Counting (marks rest n : ℕ) : Type 0 where
-  pub left : ℕ
-  pub all : n + left ≡ 5
-  pub so_far : unmarked_before 5 marks ≡ n + unmarked_before left rest
+-- those are the zeros below the lowest digit 1 of the marks
+before_zeros : (n k marks : ℕ) → n ≤ k → unmarked_before n marks ≡ min (count_trailing_zeros k marks) n
+unfolding unmarked_before count_trailing_zeros
+before_zeros zero k marks h = omega arith
+before_zeros (suc n) zero marks h = absurd (omega arith)
+before_zeros (suc n) (suc k) marks h = go (marks % 2) (omega arith) (before_zeros n k (marks / 2) (omega arith))
+  where
+    go :
+        (digit : ℕ) → digit < 2 → unmarked_before n (marks / 2) ≡ min (count_trailing_zeros k (marks / 2)) n →
+        cond (eqb digit 1) 0 (suc (unmarked_before n (marks / 2))) ≡ min (under digit (count_trailing_zeros k (marks / 2))) (suc n)
+    go zero few later = omega arith
+    go (suc zero) few later = omega arith
+    go (suc (suc digit)) few later = absurd (omega arith)
 
-pub counting_start : (marks : ℕ) → Counting marks marks 0
-counting_start marks = record { left = 5; all = omega arith; so_far = omega arith }
-
-module _ {marks rest n : ℕ} (counting : Counting marks rest n) where
-  pub counting_over : 5 ≤ n → 5 ≡ unmarked_before 5 marks
-  counting_over h =
-      let none : counting.left ≡ 0 = omega (arith, counting.all) in
-      let told : unmarked_before counting.left rest ≡ 0 = rw none (before_none rest) in
-      omega (arith, counting.all, counting.so_far, told)
-
-  module _ (more : n < 5) where
-    one_left : counting.left ≡ suc (counting.left - 1)
-    one_left = omega (arith, counting.all)
-
-    pub counting_here : rest % 2 ≡ 1 → n ≡ unmarked_before 5 marks
-    counting_here e =
-        let told : unmarked_before counting.left rest ≡ 0 = rw one_left (before_here (counting.left - 1) rest e) in
-        omega (arith, counting.so_far, told)
-
-    pub counting_more : (rest % 2 ≡ 1 → ⊥) → Counting marks (rest / 2) (n + 1)
-    counting_more e =
-        let told : unmarked_before counting.left rest ≡ suc (unmarked_before (counting.left - 1) (rest / 2)) = ap (λ (k : ℕ). unmarked_before k rest) one_left ∙ before_later (counting.left - 1) rest e in
-        record { left = counting.left - 1; all = omega (arith, counting.all); so_far = omega (arith, counting.so_far, told) }
+pub before_first : (marks : ℕ) → unmarked_before 5 marks ≡ min (count_trailing_zeros 64 marks) 5
+before_first marks = before_zeros 5 64 marks (omega arith)
 
 -- ---- what the place and the line hang on
 

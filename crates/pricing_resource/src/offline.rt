@@ -7,12 +7,7 @@ use crate::{Kind, Status};
 fn is_gen_or_nuke(kind: Kind) -> bool
     ensures { result ≡ is_gen_or_nuke kind }
 {
-    match kind {
-        Kind::Gen => true,
-        Kind::Wind => false,
-        Kind::Irr => false,
-        Kind::Nuke => true,
-    }
+    matches!(kind, Kind::Gen | Kind::Nuke)
 }
 
 // Whether the HSL of a unit is counted off line.
@@ -21,17 +16,8 @@ pub fn counted_offline(kind: Kind, status: Status, cold30: i32) -> bool
     ensures { result ≡ counted_offline kind status cold30 }
 {
     match status {
-        Status::On => false,
-        Status::Off => {
-            if cold30 != 1 {
-                return false;
-            }
-            is_gen_or_nuke(kind)
-        }
+        Status::Off => cold30 == 1 && is_gen_or_nuke(kind),
         Status::OffNs => true,
-        Status::OnTest => false,
-        Status::Startup => false,
-        Status::Shutdown => false,
-        Status::Out => false,
+        Status::On | Status::OnTest | Status::Startup | Status::Shutdown | Status::Out => false,
     }
 }

@@ -7,12 +7,7 @@ use crate::{Generator, Kind, Status};
 pub(crate) fn is_gen_or_wind(kind: Kind) -> bool
     ensures { result ≡ is_gen_or_wind kind }
 {
-    match kind {
-        Kind::Gen => true,
-        Kind::Wind => true,
-        Kind::Irr => false,
-        Kind::Nuke => false,
-    }
+    matches!(kind, Kind::Gen | Kind::Wind)
 }
 
 // ON, or STARTUP with Non-Spin above 0.
@@ -21,25 +16,17 @@ fn is_running(status: Status, nonspin: i32) -> bool
 {
     match status {
         Status::On => true,
-        Status::Off => false,
-        Status::OffNs => false,
-        Status::OnTest => false,
         Status::Startup => 0 < nonspin,
-        Status::Shutdown => false,
-        Status::Out => false,
+        Status::Off | Status::OffNs | Status::OnTest | Status::Shutdown | Status::Out => false,
     }
 }
 
 // Whether a unit is counted on line.
+#[tactic(auto, unfolding(crate::specs::Online::counted_online))]
 pub fn counted_online(g: Generator) -> bool
     ensures { result ≡ counted_online g }
 {
-    let kind = g.kind;
-    if !is_gen_or_wind(kind) {
-        return false;
-    }
-    let status = g.status;
-    if !is_running(status, g.nonspin) {
+    if !is_gen_or_wind(g.kind) || !is_running(g.status, g.nonspin) {
         return false;
     }
     95 * (g.lsl as i64) <= 100 * (g.net as i64)

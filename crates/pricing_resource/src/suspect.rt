@@ -12,29 +12,21 @@ fn verdict(kind: Kind, status: Status, cold30: i32) -> bool
     ensures { result ≡ verdict kind status cold30 }
 {
     match status {
-        Status::On => is_gen_or_wind(kind),
+        Status::On | Status::Startup => is_gen_or_wind(kind),
         Status::Off => counted_offline(kind, status, cold30),
         Status::OffNs => true,
-        Status::OnTest => false,
-        Status::Startup => is_gen_or_wind(kind),
-        Status::Shutdown => false,
-        Status::Out => false,
+        Status::OnTest | Status::Shutdown | Status::Out => false,
     }
 }
 
 // Whether a marked number of a resource turns the snapshot back.
-#[tactic(auto, using(crate::proofs::Suspects::generator_verdict, crate::proofs::Suspects::controllable_verdict))]
+#[tactic(auto, using(crate::proofs::Suspects::generator_verdict, crate::proofs::Suspects::controllable_verdict, crate::proofs::Suspects::load_verdict))]
 fn marks_turn_back(resource: Resource) -> bool
     ensures { result ≡ marks_turn_back resource }
 {
     match resource {
-        Resource::Generator(g) => {
-            let kind = g.kind;
-            let status = g.status;
-            verdict(kind, status, g.cold30)
-        }
-        Resource::Controllable(_) => true,
-        Resource::Load(_) => true,
+        Resource::Generator(g) => verdict(g.kind, g.status, g.cold30),
+        Resource::Controllable(_) | Resource::Load(_) => true,
     }
 }
 
@@ -55,8 +47,7 @@ pub fn resource_line_count(resource: Resource) -> usize
 {
     match resource {
         Resource::Generator(_) => 9,
-        Resource::Controllable(_) => 6,
-        Resource::Load(_) => 6,
+        Resource::Controllable(_) | Resource::Load(_) => 6,
     }
 }
 
@@ -66,26 +57,16 @@ fn lines_before_numbers(resource: Resource) -> usize
 {
     match resource {
         Resource::Generator(_) => 3,
-        Resource::Controllable(_) => 2,
-        Resource::Load(_) => 2,
+        Resource::Controllable(_) | Resource::Load(_) => 2,
     }
 }
 
 // How many numbers stand before the first marked one; 5 where none of the first five is marked.
-#[tactic(auto, using(crate::proofs::Suspects::counting_start, crate::proofs::Suspects::counting_more))]
+#[tactic(auto, using(crate::proofs::Suspects::before_first))]
 fn unmarked_before(marks: u64) -> usize
     ensures { result ≡ unmarked_before 5 marks }
 {
-    let mut rest = marks;
-    let mut n: usize = 0;
-    while n < 5 {
-        if rest % 2 == 1 {
-            return n;
-        }
-        rest /= 2;
-        n += 1;
-    }
-    5
+    marks.trailing_zeros().min(5) as usize
 }
 
 // Which of a resource's lines holds its first marked number, where that turns the snapshot back; 0 where it does not.

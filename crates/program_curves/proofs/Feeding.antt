@@ -1,21 +1,22 @@
 -- A part of the input taken byte by byte: each byte leads further on in it.
-use Prim.Native.Nat.{ℕ, zero, suc, ◌+◌, ◌≤◌, ◌<◌}
+use Prim.Native.Nat.{ℕ, ◌+◌, ◌-◌, ◌≤◌, ◌<◌, min}
 use mathlib.Core.Path.{◌≡◌, refl, sym, ap, ◌∙◌}
 use mathlib.Core.Bool.{Bool, true, false, cond}
 use mathlib.Core.List.{List, [], ◌∷◌}
-use native.Mathlib.Nat.{le_refl}
+use native.Mathlib.Nat.{add-zero, add_assoc}
 use native.Mathlib.Numerals.{add-one}
 use native.Mathlib.Omega.{arith}
 use borrow.Author.Tests.{eqb-true, eqb-false, ne_eqb}
 use lib.Dec.{eqb}
-use lib.ListN.{length, take, drop, set, get_or, length-set, length-take}
-use lib.Seq.{drop-cons, drop-length, length-take-le}
+use lib.ListN.{length, take, drop, set, get_or, length-set, length-take, length-drop}
+use lib.Seq.{drop-cons, length-take-le, take_all}
+use Rattle.std.proofs.lemmas.List.{take_min}
 use Rattle.program_curves.specs.Program.{ends_hour}
 use Rattle.program_curves.specs.Stream.{State, state_of, fed, fed_all, buffer_fed, buffer_fed_all, stores, is_refused, Fed}
 use Rattle.program_curves.specs.declared.Stage.{Stage}
 use Rattle.program_curves.specs.declared.Stage.TheVariants as stage
 use Rattle.program_curves.specs.declared.Stream.{Stream}
-use Rattle.program_curves.specs.internal.Feeding.{due_line, stage_at, ends_at, stops_at, holding, Ready, Further, Stored}
+use Rattle.program_curves.specs.internal.Feeding.{line_of, ends_at, stops_at, holding, Ready, Further, Stored}
 use Rattle.program_curves.proofs.OneByte.{voll_line, floor_line, line_more, hour_more}
 
 pub further_none : {s : State} {buffer rest : List ℕ} → Further s buffer rest s buffer rest
@@ -56,89 +57,76 @@ further_refused s buffer (byte ∷ rest) h =
     let others = further_refused s buffer rest h in
     record { state = rw unmoved.0 others.state; bytes = rw (unmoved.0, unmoved.1) others.bytes }
 
--- the byte at a position
-pub next_byte : (part : List ℕ) (i : ℕ) → i < length part → drop i part ≡ get_or part i 0 ∷ drop (i + 1) part
-next_byte part i h = rw (add-one i) (drop-cons part i 0 h)
-
--- a stage that is not refused is told by its line
-pub waiting : (at : Stage) → is_refused at ≡ false → (due_line at ≤ 2) × (at ≡ stage_at (due_line at))
-waiting stage.Voll h = (omega arith, refl)
-waiting stage.Floor h = (omega arith, refl)
-waiting stage.Hours h = (omega arith, refl)
-waiting (stage.RefusedHour found) h = let z : ◌≡◌ {A = ℕ} 0 1 = cc in absurd (omega arith)
-waiting (stage.RefusedSettle found) h = let z : ◌≡◌ {A = ℕ} 0 1 = cc in absurd (omega arith)
-
 -- a byte that is not the last one, and has room, is only held
-held_more : (line : ℕ) (s : Stream) (buffer : List ℕ) (byte : ℕ) → Ready s buffer → s.stage ≡ stage_at line → s.held < 65536 →
-    ends_at line (take s.held buffer) byte ≡ false → Fed s buffer (byte ∷ []) (holding s (s.held + 1)) (set buffer s.held byte)
-held_more zero s buffer byte ready here room more = hour_more s buffer byte ready here (holding s (s.held + 1)) more room (rw here)
-held_more (suc zero) s buffer byte ready here room more = line_more s buffer byte ready voll_line here (holding s (s.held + 1)) room (eqb-false byte 10 more) (rw here)
-held_more (suc (suc line)) s buffer byte ready here room more = line_more s buffer byte ready floor_line here (holding s (s.held + 1)) room (eqb-false byte 10 more) (rw here)
+held_more : (s : Stream) (buffer : List ℕ) (byte : ℕ) → Ready s buffer → is_refused s.stage ≡ false → s.held < 65536 →
+    ends_at s.stage (take s.held buffer) byte ≡ false → Fed s buffer (byte ∷ []) (holding s (s.held + 1)) (set buffer s.held byte)
+held_more s buffer byte ready unrefused room more = go s.stage refl unrefused more
+  where
+    to : Stream
+    to = holding s (s.held + 1)
+
+    go : (here : Stage) → s.stage ≡ here → is_refused here ≡ false → ends_at here (take s.held buffer) byte ≡ false → Fed s buffer (byte ∷ []) to (set buffer s.held byte)
+    go stage.Voll e h m = line_more s buffer byte ready voll_line e to room (eqb-false byte 10 m) (rw e)
+    go stage.Floor e h m = line_more s buffer byte ready floor_line e to room (eqb-false byte 10 m) (rw e)
+    go stage.Hours e h m = hour_more s buffer byte ready e to m room (rw e)
+    go (stage.RefusedHour found) e h m = cc
+    go (stage.RefusedSettle found) e h m = cc
 
 -- ---- a byte that stops the storing, or does not
 
-not_last : (line held : ℕ) (buffer : List ℕ) (byte : ℕ) → stops_at line held buffer byte ≡ false → ends_at line (take held buffer) byte ≡ false
-not_last line held buffer byte = go (eqb held 65536)
+not_last : (waits : Stage) (held : ℕ) (buffer : List ℕ) (byte : ℕ) → stops_at waits held buffer byte ≡ false → ends_at waits (take held buffer) byte ≡ false
+not_last waits held buffer byte = go (eqb held 65536)
   where
-    go : (full : Bool) → cond full true (ends_at line (take held buffer) byte) ≡ false → ends_at line (take held buffer) byte ≡ false
-    go true h = let z : ◌≡◌ {A = ℕ} 0 1 = cc h in absurd (omega arith)
+    go : (full : Bool) → cond full true (ends_at waits (take held buffer) byte) ≡ false → ends_at waits (take held buffer) byte ≡ false
+    go true h = cc
     go false h = h
 
-pub room_left : (line held : ℕ) (buffer : List ℕ) (byte : ℕ) → held ≤ 65536 → stops_at line held buffer byte ≡ false → held < 65536
-room_left line held buffer byte within h = go (eqb held 65536) refl h
+pub room_left : (waits : Stage) (held : ℕ) (buffer : List ℕ) (byte : ℕ) → held ≤ 65536 → stops_at waits held buffer byte ≡ false → held < 65536
+room_left waits held buffer byte within h = go (eqb held 65536) refl h
   where
-    go : (full : Bool) → eqb held 65536 ≡ full → cond full true (ends_at line (take held buffer) byte) ≡ false → held < 65536
-    go true e q = let z : ◌≡◌ {A = ℕ} 0 1 = cc q in absurd (omega arith)
+    go : (full : Bool) → eqb held 65536 ≡ full → cond full true (ends_at waits (take held buffer) byte) ≡ false → held < 65536
+    go true e q = cc
     go false e q = omega (arith, eqb-false held 65536 e)
 
 -- a byte that stops a line that has room is byte 10
-pub line_stops : (line held : ℕ) (buffer : List ℕ) (byte : ℕ) → (line ≡ 0 → ⊥) → stops_at line held buffer byte ≡ true → (held ≡ 65536 → ⊥) → byte ≡ 10
-line_stops zero held buffer byte other h room = absurd (other refl)
-line_stops (suc line) held buffer byte other h room = eqb-true byte 10 (rw (ne_eqb held 65536 room) at h)
+pub line_stops : (waits : Stage) (held : ℕ) (buffer : List ℕ) (byte : ℕ) → 1 ≤ line_of waits → stops_at waits held buffer byte ≡ true → (held ≡ 65536 → ⊥) → byte ≡ 10
+line_stops stage.Voll held buffer byte line h room = eqb-true byte 10 (rw (ne_eqb held 65536 room) at h)
+line_stops stage.Floor held buffer byte line h room = eqb-true byte 10 (rw (ne_eqb held 65536 room) at h)
+line_stops stage.Hours held buffer byte line h room = absurd (omega arith)
+line_stops (stage.RefusedHour found) held buffer byte line h room = absurd (omega arith)
+line_stops (stage.RefusedSettle found) held buffer byte line h room = absurd (omega arith)
 
 -- a byte that stops an hour and does not end it finds no room
-pub hour_stops : (held : ℕ) (buffer : List ℕ) (byte : ℕ) → ends_hour (take held buffer) byte ≡ false → stops_at 0 held buffer byte ≡ true → held ≡ 65536
+pub hour_stops : (held : ℕ) (buffer : List ℕ) (byte : ℕ) → ends_hour (take held buffer) byte ≡ false → stops_at stage.Hours held buffer byte ≡ true → held ≡ 65536
 hour_stops held buffer byte more h = go (eqb held 65536) refl h
   where
     go : (full : Bool) → eqb held 65536 ≡ full → cond full true (ends_hour (take held buffer) byte) ≡ true → held ≡ 65536
     go true e q = eqb-true held 65536 e
     go false e q = let z : ◌≡◌ {A = ℕ} 0 1 = cc (sym q ∙ more) in absurd (omega arith)
 
--- bytes of a line or an hour stored, whatever the stream holds besides
-pub record Storing (line : ℕ) (buffer part : List ℕ) (from held : ℕ) (after : List ℕ) (held' next : ℕ) : Type 0 where
-  pub room : length after ≡ 65536
-  pub within : held' ≤ 65536
-  pub on : from ≤ next
-  pub inside : next ≤ length part
-  pub further : (s : Stream) → s.stage ≡ stage_at line →
-      Further (state_of (holding s held) buffer) buffer (drop from part) (state_of (holding s held') after) after (drop next part)
+-- ---- bytes of a line or an hour stored
 
-pub storing_none : (line : ℕ) (buffer part : List ℕ) (from held : ℕ) → length buffer ≡ 65536 → held ≤ 65536 → from ≤ length part →
-    Storing line buffer part from held buffer held from
-storing_none line buffer part from held room within inside =
-    record { room = room; within = within; on = le_refl from; inside = inside; further = λ s here. further_none }
+pub stored_none : (s : Stream) (buffer part : List ℕ) → Ready s buffer → Stored s buffer part buffer 0
+stored_none s buffer part ready = record { room = ready.room; within = omega (arith, ready.within); inside = omega arith; further = rw (add-zero s.held) further_none }
 
-module _ {line : ℕ} {buffer part after : List ℕ} {from held held' next : ℕ} (so_far : Storing line buffer part from held after held' next) where
-  pub storing_on : next < length part → stops_at line held' after (get_or part next 0) ≡ false →
-      Storing line buffer part from held (set after held' (get_or part next 0)) (held' + 1) (next + 1)
-  storing_on inside more =
-      let byte : ℕ = get_or part next 0 in
-      let room : held' < 65536 = room_left line held' after byte so_far.within more in
+module _ {s : Stream} {buffer part after : List ℕ} {count : ℕ} (so_far : Stored s buffer part after count) (unrefused : is_refused s.stage ≡ false) where
+  pub stored_on : count < length part → stops_at s.stage (s.held + count) after (get_or part count 0) ≡ false →
+      Stored s buffer part (set after (s.held + count) (get_or part count 0)) (count + 1)
+  stored_on inside more =
+      let byte : ℕ = get_or part count 0 in
+      let held : ℕ = s.held + count in
+      let room : held < 65536 = room_left s.stage held after byte so_far.within more in
+      let at_byte : drop count part ≡ byte ∷ drop (count + 1) part = rw (add-one count) (drop-cons part count 0 inside) in
       record {
         room = rw length-set so_far.room;
         within = omega arith;
-        on = omega (arith, so_far.on);
         inside = omega arith;
-        further = λ s here.
-            further_on (so_far.further s here)
-            (rw (next_byte part next inside)
-            (further_byte (holding s held') (holding s (held' + 1)) after (set after held' byte) byte (drop (next + 1) part)
-            (held_more line (holding s held') after byte (record { room = so_far.room; within = so_far.within }) here room (not_last line held' after byte more))));
+        further =
+            rw (← add_assoc s.held count 1)
+            (further_on (rw at_byte at so_far.further)
+            (further_byte (holding s held) (holding s (held + 1)) after (set after held byte) byte (drop (count + 1) part)
+            (held_more (holding s held) after byte (record { room = so_far.room; within = so_far.within }) unrefused room (not_last s.stage held after byte more))));
       }
-
-  pub stored : (s : Stream) → s.stage ≡ stage_at line → s.held ≡ held → Stored s buffer part from after held' next
-  stored s here same =
-      record { room = so_far.room; within = so_far.within; on = so_far.on; inside = so_far.inside; further = rw (sym same) at (so_far.further s here) }
 
 -- the buffer keeps its length, and no more than it has is held
 ready_after : (s r : Stream) (buffer after : List ℕ) (byte : ℕ) → length buffer ≡ 65536 → Fed s buffer (byte ∷ []) r after → Ready r after
@@ -152,37 +140,45 @@ ready_after s r buffer after byte room f =
     go true = rw length-set room
     go false = room
 
--- a part of which some bytes are taken
-pub record Going (buffer part : List ℕ) (s : Stream) (after : List ℕ) (r : Stream) (i : ℕ) : Type 0 where
+-- a part of which some bytes are taken, and the rest is left
+pub record Going (buffer part : List ℕ) (s : Stream) (after : List ℕ) (r : Stream) (rest : List ℕ) : Type 0 where
   pub ready : Ready r after
-  pub inside : i ≤ length part
-  pub further : Further (state_of s buffer) buffer part (state_of r after) after (drop i part)
+  pub further : Further (state_of s buffer) buffer part (state_of r after) after rest
 
-pub going_none : (buffer part : List ℕ) (s : Stream) → Ready s buffer → Going buffer part s buffer s 0
-going_none buffer part s ready = record { ready = ready; inside = omega arith; further = further_none }
+pub going_none : (buffer part : List ℕ) (s : Stream) → Ready s buffer → Going buffer part s buffer s part
+going_none buffer part s ready = record { ready = ready; further = further_none }
 
-module _ {buffer part after : List ℕ} {s r : Stream} {i : ℕ} (going : Going buffer part s after r i) where
+module _ {buffer part after rest : List ℕ} {s r : Stream} (going : Going buffer part s after r rest) where
   pub going_refused : is_refused r.stage ≡ true → Fed s buffer part r after
-  going_refused h = further_end s r buffer after part going.ready (further_on going.further (further_refused (state_of r after) after (drop i part) h))
+  going_refused h = further_end s r buffer after part going.ready (further_on going.further (further_refused (state_of r after) after rest h))
 
-  pub going_end : i ≡ length part → Fed s buffer part r after
-  going_end h = further_end s r buffer after part going.ready (rw (h, drop-length) at going.further)
+  pub going_end : length rest ≡ 0 → Fed s buffer part r after
+  going_end h = further_end s r buffer after part going.ready (rw (empty_list rest h) at going.further)
+    where
+      empty_list : (l : List ℕ) → length l ≡ 0 → l ≡ []
+      empty_list [] e = refl
+      empty_list (first ∷ l) e = absurd (omega arith)
 
-  pub going_stored : (after' : List ℕ) (held next : ℕ) → Stored r after part i after' held next → Going buffer part s after' (holding r held) next
-  going_stored after' held next more =
+  pub going_stored : (after' : List ℕ) (count : ℕ) → Stored r after rest after' count → Going buffer part s after' (holding r (r.held + count)) (drop count rest)
+  going_stored after' count more =
       record {
         ready = record { room = more.room; within = more.within };
-        inside = more.inside;
         further = further_on going.further more.further;
       }
 
-  pub going_byte : (r' : Stream) (after' : List ℕ) → i < length part → Fed r after (get_or part i 0 ∷ []) r' after' → Going buffer part s after' r' (i + 1)
-  going_byte r' after' inside f =
+  pub going_byte : (r' : Stream) (after' : List ℕ) (byte : ℕ) (more : List ℕ) → rest ≡ byte ∷ more → Fed r after (byte ∷ []) r' after' → Going buffer part s after' r' more
+  going_byte r' after' byte more is f =
       record {
-        ready = ready_after r r' after after' (get_or part i 0) going.ready.room f;
-        inside = omega arith;
-        further = further_on (rw (next_byte part i inside) at going.further) (further_byte r r' after after' (get_or part i 0) (drop (i + 1) part) f);
+        ready = ready_after r r' after after' byte going.ready.room f;
+        further = further_on (rw is at going.further) (further_byte r r' after after' byte more f);
       }
+
+pub take_within : (buffer : List ℕ) (held k : ℕ) → length buffer ≡ 65536 → k ≡ min held 65536 → take k buffer ≡ take held buffer
+take_within buffer held k room is = rw (is, sym room) (take_min held buffer)
+
+-- a part from a place on
+pub part_from : (part : List ℕ) (k : ℕ) → take (length part - k) (drop k part) ≡ drop k part
+part_from part k = take_all (length part - k) (drop k part) (omega (arith, length-drop k part))
 
 -- a stream that says it holds more than the buffer has holds all of it
 pub held_whole : (s r : Stream) (buffer part after : List ℕ) (held : ℕ) → take held buffer ≡ take s.held buffer → Fed (holding s held) buffer part r after → Fed s buffer part r after

@@ -1,65 +1,43 @@
 // A part of the input, of any length.
-ghost use Rattle.std.specs.Prelude.{true, ◌≡◌, ◌≤◌, ◌<◌, length, take, get_or};
-ghost use Rattle.program_curves.specs.Stream.{Fed};
-ghost use Rattle.program_curves.specs.internal.Feeding.{stage_at, stops_at, Stored};
+ghost use Rattle.std.specs.Prelude.{true, false, ◌≡◌, ◌≤◌, ◌+◌, ◌<◌, length, take, get_or};
+ghost use Rattle.program_curves.specs.Stream.{Fed, is_refused};
+ghost use Rattle.program_curves.specs.internal.Feeding.{stops_at, Ready, Stored};
 
-use crate::ending::{due_line, end_byte, stops};
+use crate::ending::{end_byte, stops};
 use crate::{Stream, is_refused};
 
-// How many bytes are held, and where the next byte of the part stands.
-#[derive(Clone, Copy)]
-struct Place {
-    held: usize,
-    next: usize,
-}
-
-// How many bytes are held: no more than the buffer has.
-fn held_within(held: usize, buffer: &[u8]) -> usize
-    ensures { (result ≤ length buffer.now) × (take result buffer.now ≡ take held buffer.now) }
+// Bytes of a line or an hour stored, up to one that ends it or finds no room; how many these are.
+fn store(stream: &Stream, buffer: &mut [u8; 65536], input: &[u8]) -> usize
+    requires ready { Ready stream.now buffer.old }
+    requires waits { is_refused stream.now.stage ≡ false }
+    ensures stored { Stored stream.now buffer.old input.now buffer.new result }
+    ensures stops { result < length input.now → stops_at stream.now.stage (stream.now.held + result) buffer.new (get_or input.now result 0) ≡ true }
 {
-    if held < buffer.len() {
-        return held;
-    }
-    buffer.len()
-}
-
-// Bytes of a line or an hour stored, up to one that ends it or finds no room.
-fn store(line: usize, mut held: usize, buffer: &mut [u8; 65536], input: &[u8], from: usize) -> Place
-    requires { (length buffer.old ≡ 65536) × (held ≤ 65536) × (from ≤ length input.now) }
-    ensures { ((s : Stream) → s.stage ≡ stage_at line → s.held ≡ held → Stored s buffer.old input.now from buffer.new result.held result.next) × (result.next < length input.now → stops_at line result.held buffer.new (get_or input.now result.next 0) ≡ true) }
-{
-    let mut next = from;
-    while next < input.len() {
-        let byte = input[next];
-        if stops(line, buffer, held, byte) {
-            return Place { held, next };
+    for (stored, byte) in input.iter().enumerate() {
+        let held = stream.held + stored;
+        if stops(stream.stage, buffer, held, *byte) {
+            return stored;
         }
-        buffer[held] = byte;
-        held += 1;
-        next += 1;
+        buffer[held] = *byte;
     }
-    Place { held, next }
+    input.len()
 }
 
 // A part of the input; the buffer lent is the same one at each part.
 pub fn feed(mut stream: Stream, buffer: &mut [u8; 65536], part: &[u8]) -> Stream
     ensures { Fed stream buffer.old part.now result buffer.new }
 {
-    stream.held = held_within(stream.held, buffer);
-    let mut i: usize = 0;
-    loop {
-        let stage = stream.stage;
-        if is_refused(stage) {
+    // No more bytes are held than the buffer has.
+    stream.held = stream.held.min(buffer.len());
+    let mut rest = part;
+    while !is_refused(stream.stage) {
+        let stored = store(&stream, buffer, rest);
+        stream.held += stored;
+        let Some((byte, more)) = rest[stored..].split_first() else {
             return stream;
-        }
-        let line = due_line(stage);
-        let stored = store(line, stream.held, buffer, part, i);
-        stream.held = stored.held;
-        i = stored.next;
-        if i == part.len() {
-            return stream;
-        }
-        stream = end_byte(stream, buffer, part[i], line);
-        i += 1;
+        };
+        stream = end_byte(stream, buffer, *byte);
+        rest = more;
     }
+    stream
 }

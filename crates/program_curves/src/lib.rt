@@ -39,12 +39,11 @@ pub struct Stream {
 pub fn start() -> Stream
     ensures { result ≡ stream_of start }
 {
-    let history = fresh();
     Stream {
         stage: Stage::Voll,
         voll: 0,
         floor: 0,
-        history,
+        history: fresh(),
         held: 0,
     }
 }
@@ -53,11 +52,5 @@ pub fn start() -> Stream
 pub fn is_refused(stage: Stage) -> bool
     ensures { result ≡ is_refused stage }
 {
-    match stage {
-        Stage::Voll => false,
-        Stage::Floor => false,
-        Stage::Hours => false,
-        Stage::RefusedHour(_) => true,
-        Stage::RefusedSettle(_) => true,
-    }
+    matches!(stage, Stage::RefusedHour(_) | Stage::RefusedSettle(_))
 }

@@ -1,9 +1,8 @@
 // The end of the input: what the program prints.
-ghost use Rattle.std.specs.Prelude.{◌≡◌, ◌≤◌, ℤ, length, cond};
+ghost use Rattle.std.specs.Prelude.{◌≡◌, ◌≤◌, ℤ, length};
 ghost use Rattle.text_writer.specs.Output.{refusal_lines};
-ghost use Rattle.program_curves.specs.Program.{last_hour, after_hour, settled_text, hours_booked};
-ghost use Rattle.program_curves.specs.Stream.{State, state_of, finished, Printed};
-ghost use Rattle.text_refusal.specs.Bytes.{bytes};
+ghost use Rattle.program_curves.specs.Program.{last_hour, after_hour, settle_refused, settled_text, hours_booked};
+ghost use Rattle.program_curves.specs.Stream.{state_of, finished, Printed};
 
 use crate::{Stage, Stream};
 use curve_booking::{Booking, book};
@@ -16,15 +15,8 @@ use text_refusal::refusal::Refusal;
 use text_writer::Written;
 use text_writer::output::write_refusal;
 
-// What ended the stream, and whether the refused text is `hour` or `settle`.
-#[derive(Clone, Copy)]
-struct Ending {
-    found: Refusal,
-    hour: bool,
-}
-
 // The lines of a refusal, with the name of the refused text.
-fn print_lines(found: Refusal, name: &[u8], out: &mut [u8]) -> usize
+fn print_refusal(found: Refusal, name: &[u8], out: &mut [u8]) -> usize
     requires out_len { length out.old ≡ 768 }
     requires name_len_bound { length name.now ≤ 6 }
     ensures { Printed (refusal_lines found name.now) out.old out.new result }
@@ -36,17 +28,6 @@ fn print_lines(found: Refusal, name: &[u8], out: &mut [u8]) -> usize
     next
 }
 
-// A refusal of an hour, or of settling.
-fn print_refusal(found: Refusal, hour: bool, out: &mut [u8]) -> usize
-    requires { length out.old ≡ 768 }
-    ensures { Printed (refusal_lines found (cond hour (bytes "hour") (bytes "settle"))) out.old out.new result }
-{
-    if hour {
-        return print_lines(found, b"hour", out);
-    }
-    print_lines(found, b"settle", out)
-}
-
 // The curve text of a record, or the refusal of settling it.
 fn print_curves(history: Record, voll: i64, floor: i64, out: &mut [u8]) -> usize
     requires { length out.old ≡ 768 }
@@ -55,7 +36,7 @@ fn print_curves(history: Record, voll: i64, floor: i64, out: &mut [u8]) -> usize
     let curves = settle(history, voll, floor);
     let answer = curves.answer;
     match answer {
-        Answer::Refused(found) => return print_refusal(found, false, out),
+        Answer::Refused(found) => return print_refusal(found, b"settle", out),
         Answer::Accepted => {
             let w = write_curves(curves.set, out);
             let WrittenCurves::Length(next) = w else {
@@ -87,43 +68,31 @@ fn print_hours(stream: Stream, hour: &[u8], out: &mut [u8]) -> usize
     let booking = last_booked(stream.history, hour);
     let answer = booking.answer;
     match answer {
-        Answer::Refused(found) => return print_refusal(found, true, out),
+        Answer::Refused(found) => return print_refusal(found, b"hour", out),
         Answer::Accepted => {
             return print_curves(booking.history, stream.voll, stream.floor, out);
         }
     }
 }
 
-// What is refused at a stage other than `Hours`: a line that is missing, or what was refused before.
-fn ended_by(stage: Stage) -> Ending
-    ensures { (s : State) → s.stage ≡ stage → (stage ≡ Stage.Hours → ⊥) → finished s ≡ refusal_lines result.found (cond result.hour (bytes "hour") (bytes "settle")) }
+// The refusal of a line that is missing.
+fn print_missing(line: usize, out: &mut [u8]) -> usize
+    requires { length out.old ≡ 768 }
+    ensures { Printed (settle_refused 3 line) out.old out.new result }
 {
-    match stage {
-        Stage::Voll => {
-            let found = Refusal { number: 3, line: 1 };
-            return Ending { found, hour: false };
-        }
-        Stage::Floor => {
-            let found = Refusal { number: 3, line: 2 };
-            return Ending { found, hour: false };
-        }
-        Stage::Hours => {
-            let found = Refusal { number: 0, line: 0 };
-            return Ending { found, hour: false };
-        }
-        Stage::RefusedHour(found) => return Ending { found, hour: true },
-        Stage::RefusedSettle(found) => return Ending { found, hour: false },
-    }
+    print_refusal(Refusal { number: 3, line }, b"settle", out)
 }
 
 // What the program prints, at the start of a lent buffer; how many bytes it has.
+#[tactic(auto, unfolding(crate::specs::Stream::finished))]
 pub fn finish(stream: Stream, buffer: &[u8; 65536], out: &mut [u8; 768]) -> usize
     ensures { Printed (finished (state_of stream buffer.now)) out.old out.new result }
 {
-    let stage = stream.stage;
-    let Stage::Hours = stage else {
-        let end = ended_by(stage);
-        return print_refusal(end.found, end.hour, out);
-    };
-    print_hours(stream, part(buffer, 0, stream.held), out)
+    match stream.stage {
+        Stage::Voll => print_missing(1, out),
+        Stage::Floor => print_missing(2, out),
+        Stage::Hours => print_hours(stream, part(buffer, 0, stream.held), out),
+        Stage::RefusedHour(found) => print_refusal(found, b"hour", out),
+        Stage::RefusedSettle(found) => print_refusal(found, b"settle", out),
+    }
 }

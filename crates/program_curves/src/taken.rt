@@ -1,7 +1,8 @@
 // The stream after a whole line or hour was taken.
-ghost use Rattle.std.specs.Prelude.{[], ◌≡◌, ◌≤◌, eqb, cond};
+ghost use Rattle.std.specs.Prelude.{[], ◌≡◌, ◌≤◌};
 ghost use Rattle.curve_text.specs.CurveText.{voll_field, floor_field};
 ghost use Rattle.program_curves.specs.Stream.{state_of, stream_of, refused_settle, voll_taken, floor_taken, hour_taken, hour_too_long};
+ghost use Rattle.program_curves.specs.internal.Feeding.{line_of, field_of, taken_at};
 ghost use Rattle.text_line.specs.Field.{field_at};
 ghost use Rattle.curve_booking.specs.Booking.{booked};
 
@@ -16,20 +17,19 @@ use text_refusal::answer::Answer;
 use text_refusal::refusal::Refusal;
 
 // The stream at another stage, with a record, and with no bytes held.
-pub(crate) fn at_stage(stream: Stream, stage: Stage, history: Record) -> Stream
+fn at_stage(stream: Stream, stage: Stage, history: Record) -> Stream
     ensures { result ≡ record { stage = stage; voll = stream.voll; floor = stream.floor; history = history; held = 0 } }
 {
     Stream {
         stage,
-        voll: stream.voll,
-        floor: stream.floor,
         history,
         held: 0,
+        ..stream
     }
 }
 
 // The stream after the `voll` line, the first, or the `floor` line, the second, was refused.
-pub(crate) fn line_refused(stream: Stream, number: u64, line: usize) -> Stream
+fn line_refused(stream: Stream, number: u64, line: usize) -> Stream
     ensures { result ≡ stream_of (refused_settle (state_of stream []) number line) }
 {
     let found = Refusal { number, line };
@@ -64,15 +64,26 @@ fn floor_taken(mut stream: Stream, text: &[u8]) -> Stream
     at_stage(stream, Stage::Hours, stream.history)
 }
 
-// The stream after such a line.
-pub(crate) fn line_taken(stream: Stream, text: &[u8], line: usize) -> Stream
-    requires { (1 ≤ line) × (line ≤ 2) }
-    ensures { result ≡ stream_of (cond (eqb line 1) voll_taken floor_taken (state_of stream []) (field_at (cond (eqb line 1) voll_field floor_field) text.now 0)) }
+// The stream after a whole line of either kind.
+pub(crate) fn line_taken(stream: Stream, text: &[u8]) -> Stream
+    requires { 1 ≤ line_of stream.stage }
+    ensures { result ≡ stream_of (taken_at stream.stage (state_of stream []) (field_at (field_of stream.stage) text.now 0)) }
 {
-    if line == 1 {
-        return voll_taken(stream, text);
+    match stream.stage {
+        Stage::Voll => voll_taken(stream, text),
+        _ => floor_taken(stream, text),
     }
-    floor_taken(stream, text)
+}
+
+// The stream after 65537 bytes of a line of either kind.
+pub(crate) fn line_too_long(stream: Stream) -> Stream
+    requires { 1 ≤ line_of stream.stage }
+    ensures { result ≡ stream_of (refused_settle (state_of stream []) 3 (line_of stream.stage)) }
+{
+    match stream.stage {
+        Stage::Voll => line_refused(stream, 3, 1),
+        _ => line_refused(stream, 3, 2),
+    }
 }
 
 // The stream after a whole hour.
@@ -93,10 +104,11 @@ pub(crate) fn hour_taken(stream: Stream, hour: &[u8]) -> Stream
 pub(crate) fn hour_too_long(stream: Stream) -> Stream
     ensures { result ≡ stream_of (hour_too_long (state_of stream [])) }
 {
-    let mut number: u64 = 1;
-    if record_possible(stream.history) {
-        number = 2;
-    }
+    let number = if record_possible(stream.history) {
+        2
+    } else {
+        1
+    };
     let found = Refusal { number, line: 0 };
     at_stage(stream, Stage::RefusedHour(found), stream.history)
 }

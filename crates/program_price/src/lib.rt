@@ -15,13 +15,13 @@ use text_writer::output::write_refusal;
 use text_writer::{Written, write_lines};
 
 // Where the first empty line starts, or the input's end.
+#[tactic(auto, using(crate::proofs::EmptyLine::empty_line_here, crate::proofs::EmptyLine::line_ended, crate::proofs::EmptyLine::in_line, crate::proofs::EmptyLine::no_empty_line))]
 fn empty_line(input: &[u8]) -> usize
     ensures { result ≡ before_empty_line true input.now }
 {
     let mut start = true;
-    let mut i: usize = 0;
-    while i < input.len() {
-        if input[i] == 10 {
+    for (i, byte) in input.iter().enumerate() {
+        if *byte == 10 {
             if start {
                 return i;
             }
@@ -29,12 +29,12 @@ fn empty_line(input: &[u8]) -> usize
         } else {
             start = false;
         }
-        i += 1;
     }
-    i
+    input.len()
 }
 
 // The six lines of an accepted pricing.
+#[tactic(auto, unfolding(crate::specs::Program::price_lines))]
 fn print_prices(p: Prices, out: &mut [u8]) -> Written
     ensures { TextWritten (price_lines p) out.old 0 out.new result }
 {

@@ -6,9 +6,9 @@ use mathlib.Core.List.{List, [], ◌∷◌, ◌++◌, append_assoc}
 use mathlib.Core.Path.{◌≡◌, refl, sym, ap, ◌∙◌}
 use lib.ListN.{length, take, drop, length-append, length-drop, take-append-drop}
 use lib.Seq.{length-take-le, drop-drop, drop_at}
+use Rattle.std.specs.Prelude.{Ok}
 use Rattle.text_line.specs.Judged.{good}
 use Rattle.text_line.specs.Field.{Field, LineAnswer, got, refused, next_at, field_at}
-use Rattle.text_line.specs.declared.Lines.TheVariants as lines
 use Rattle.text_line.proofs.FieldTexts.{field_written, field_read}
 use Rattle.text_schema.specs.Schema.{and_then, read_fields}
 use Rattle.text_schema.specs.Checked.{CheckedLine, checked_line, checked_lines, text_of}
@@ -76,10 +76,10 @@ LinesStand text at next fields values = Cut text at next (text_of (checked_lines
 
 module _ {A : Type 0} (text : List ℕ) where
   pub lines_cut :
-      (fields : List (Field A)) (at next : ℕ) → AllSound fields → (read_fields fields text at).end ≡ lines.Read next →
+      (fields : List (Field A)) (at next : ℕ) → AllSound fields → (read_fields fields text at).end ≡ Ok next →
       LinesStand text at next fields (read_fields fields text at).values
   lines_cut fields at next none_sound e =
-      let over : lines.Read at ≡ lines.Read next = rw (reading_none {A = A}) at e in
+      let over : Ok at ≡ Ok next = rw (reading_none {A = A}) at e in
       let same : at ≡ next = cc in
       rw (reading_none {A = A} text at, checked_none {A = A} [], text_none, ← same) (cut_none text at, tt)
   lines_cut fields at next (one_sound {field} {fields = others} sound sounds) e =
@@ -88,8 +88,8 @@ module _ {A : Type 0} (text : List ℕ) where
     where
       go :
           (answer : LineAnswer A) → field_at field text at ≡ answer →
-          ((mid : ℕ) → (read_fields others text mid).end ≡ lines.Read next → LinesStand text mid next others (read_fields others text mid).values) →
-          (and_then answer (λ mid. read_fields others text mid)).end ≡ lines.Read next →
+          ((mid : ℕ) → (read_fields others text mid).end ≡ Ok next → LinesStand text mid next others (read_fields others text mid).values) →
+          (and_then answer (λ mid. read_fields others text mid)).end ≡ Ok next →
           LinesStand text at next (field ∷ others) (and_then (field_at field text at) (λ mid. read_fields others text mid)).values
       go (got value mid) h again e =
           let line = line_cuts field sound text at value mid h in
@@ -102,7 +102,7 @@ module _ {A : Type 0} (text : List ℕ) where
   pub lines_read :
       (fields : List (Field A)) (values : List A) (at next : ℕ) → AllSound fields → AllFitOrRefused fields → length values ≡ length fields →
       LinesStand text at next fields values →
-      read_fields fields text at ≡ record { values = values; end = lines.Read next }
+      read_fields fields text at ≡ record { values = values; end = Ok next }
   lines_read fields [] at next none_sound none_fits long stand =
       let none : text_of (checked_lines {A = A} [] []) ≡ [] = rw (checked_none {A = A} [], text_none) in
       let here : next ≡ at = omega (arith, stand.0.1, ap length none) in

@@ -6,9 +6,9 @@ use mathlib.Core.List.{List, [], ◌∷◌, ◌++◌, append_assoc}
 use mathlib.Core.Path.{◌≡◌, refl, sym, ap, ◌∙◌}
 use lib.ListN.{length, drop, length-append}
 use lib.Seq.{take_at, take-length}
+use Rattle.std.specs.Prelude.{Ok}
 use Rattle.text_line.specs.Piece.{part}
 use Rattle.text_line.specs.Field.{Field, LineAnswer, got, refused, next_at, field_at}
-use Rattle.text_line.specs.declared.Lines.TheVariants as lines
 use Rattle.text_line.proofs.FieldTexts.{field_written, field_read}
 use Rattle.text_schema.specs.Schema.{and_then, read_fields, write_fields}
 use Rattle.text_schema.proofs.Readings.{reading_none, reading_first}
@@ -32,7 +32,7 @@ written_is_read_back A fields values before after (one_sound {field} {fields = o
     let here : next ≡ next_at (length before) field.key (field.write value) = omega (arith, length-append field.key (field.write value)) in
     let read : field_at field text (length before) ≡ got value next =
     rw (first, here) (field_written field value before (write_fields others rest ++ after) sound.key_line fits.written_line fits.not_empty fits.written_read) in
-    let reads : read_fields others text next ≡ record { values = rest; end = lines.Read (length passed + length (write_fields others rest)) } = rw (second, at) (written_is_read_back A others rest passed after sounds fitting) in
+    let reads : read_fields others text next ≡ record { values = rest; end = Ok (length passed + length (write_fields others rest)) } = rw (second, at) (written_is_read_back A others rest passed after sounds fitting) in
     let ends : length passed + length (write_fields others rest) ≡ length before + length (line ++ (10 ∷ write_fields others rest)) = omega (arith, length-append line (10 ∷ write_fields others rest)) in
     rw (write_first field others value rest, reading_first field others text (length before), read, reads, ends)
 
@@ -60,16 +60,16 @@ module _ {A : Type 0} (field : Field A) (sound : Sound field) (text : List ℕ) 
       )
 
 -- what is read, as it is written, is where it was read
-fields_cut : {A : Type 0} (fields : List (Field A)) (text : List ℕ) (at next : ℕ) → AllSound fields → (read_fields fields text at).end ≡ lines.Read next → Cut text at next (write_fields fields (read_fields fields text at).values)
+fields_cut : {A : Type 0} (fields : List (Field A)) (text : List ℕ) (at next : ℕ) → AllSound fields → (read_fields fields text at).end ≡ Ok next → Cut text at next (write_fields fields (read_fields fields text at).values)
 fields_cut {A} fields text at next none_sound e =
-    let over : lines.Read at ≡ lines.Read next = rw (reading_none {A = A}) at e in
+    let over : Ok at ≡ Ok next = rw (reading_none {A = A}) at e in
     let same : at ≡ next = cc in
     rw (reading_none {A = A}, write_none {A = A} [], ← same, add-zero at) (refl, refl)
 fields_cut {A} fields text at next (one_sound {field} {fields = others} sound sounds) e =
     rw (reading_first field others text at)
     (go (field_at field text at) refl (λ mid h. fields_cut others text mid next sounds h) (rw (reading_first field others text at) at e))
   where
-    go : (answer : LineAnswer A) → field_at field text at ≡ answer → ((mid : ℕ) → (read_fields others text mid).end ≡ lines.Read next → Cut text mid next (write_fields others (read_fields others text mid).values)) → (and_then answer (λ mid. read_fields others text mid)).end ≡ lines.Read next → Cut text at next (write_fields (field ∷ others) (and_then (field_at field text at) (λ mid. read_fields others text mid)).values)
+    go : (answer : LineAnswer A) → field_at field text at ≡ answer → ((mid : ℕ) → (read_fields others text mid).end ≡ Ok next → Cut text mid next (write_fields others (read_fields others text mid).values)) → (and_then answer (λ mid. read_fields others text mid)).end ≡ Ok next → Cut text at next (write_fields (field ∷ others) (and_then (field_at field text at) (λ mid. read_fields others text mid)).values)
     go (got value mid) h again e =
         rw (h, write_first field others value (read_fields others text mid).values) (cut_on text (field.key ++ field.write value) (write_fields others (read_fields others text mid).values) at mid next (field_cuts field sound text at value mid h) (again mid e))
     go (refused found) h again e = let z : ◌≡◌ {A = ℕ} 0 1 = cc in absurd (omega arith)

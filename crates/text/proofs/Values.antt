@@ -11,25 +11,22 @@ use lib.ListN.{length, length-append}
 use native.Mathlib.Omega.{arith}
 use borrow.Author.Tests.{ltb-true, ltb-false}
 use Rattle.text_refusal.proofs.Choices.{is_true}
+use Rattle.std.specs.Prelude.{Result, Ok, Err, Option as Found, Some, None}
 use Rattle.text_line.specs.Judged.{good}
 use Rattle.text_line.specs.Line.{OneLine}
 use Rattle.text_line.specs.Field.{Field}
 use Rattle.text_line.proofs.LineBytes.{one_line, one_line_none, one_line_append, EachOneLine, pieces_one_line}
 use Rattle.text_number.specs.Number.{number_of, written_number, in_range, ranged, number_in}
-use Rattle.text_number.specs.Marked.{Marked, ends_in_mark, without_mark, plain_number, suspect_number, marked_in, judged_marked, written_marked, marked_field, unmarked_field}
-use Rattle.text_number.specs.declared.Number.{Number}
-use Rattle.text_number.specs.declared.marked.MarkedNumber.{MarkedNumber}
-use Rattle.text_number.specs.declared.marked.MarkedNumber.TheVariants as marked-number
+use Rattle.text_number.specs.declared.marked.Marked.{Marked}
+use Rattle.text_number.specs.Marked.{ends_in_mark, without_mark, plain_number, suspect_number, marked_in, judged_marked, written_marked, marked_field, unmarked_field}
 use Rattle.text_number.proofs.Marks.{marked_suspect, marked_plain, mark_no_number, mark_behind, mark_last, plain_value, suspect_value, unmarked_written, suspect_written, plain_reads, suspect_reads}
 use Rattle.text_number.specs.Field.{judged_number, number_field}
-use Rattle.text_number.specs.declared.Number.TheVariants as number
+use Rattle.text_number.specs.declared.NumberError.{NumberError}
+use Rattle.text_number.specs.declared.NumberError.TheVariants as error
 use Rattle.text_number.proofs.WrittenDigits.{number_of_written, written_of_number, number_line, number_some}
 use Rattle.text_word.specs.Word.{word_in, judged_word, written_word, word_field}
-use Rattle.text_word.specs.declared.Word.{Word}
-use Rattle.text_word.specs.declared.Word.TheVariants as word
 use Rattle.text_word.proofs.Words.{none_empty, word_below, word_written, word_past, word_one_line, word_some, distinct, word_itself}
 use Rattle.text_id.specs.Id.{is_id, judged_id, id_field}
-use Rattle.text_id.specs.declared.Id.TheVariants as id
 use Rattle.text_id.proofs.Ids.{id_is, id_bytes}
 use Rattle.text_schema.specs.Schema.{keys_of, number_fields, repeated}
 use Rattle.text_schema.specs.Checked.{refused_by}
@@ -45,7 +42,7 @@ use Rattle.text.proofs.Checked.{AllFitOrRefused, none_fits, one_fits}
 judged_number_lem : (low high z value : ℤ) → judged_number (in_range low high z) ≡ good value → z ≡ value
 judged_number_lem low high z value e = go (le_z low z && le_z z high) e
   where
-    go : (b : Bool) → judged_number (cond b (number.Value z) number.Outside) ≡ good value → z ≡ value
+    go : (b : Bool) → judged_number (cond b (Ok z) (Err error.Outside)) ≡ good value → z ≡ value
     go true e = cc
     go false e = cc
 
@@ -67,7 +64,7 @@ numbers_in_range_fit key low high z l h =
 pub numbers_fit_or_are_refused : NumbersFitOrAreRefused
 numbers_fit_or_are_refused key low high z e = go (le_z low z) (le_z z high) refl refl (rw (number_of_written z) at e)
   where
-    go : (l h : Bool) → le_z low z ≡ l → le_z z high ≡ h → refused_by (judged_number (cond (l && h) (number.Value z) number.Outside)) ≡ 0 → Fitting (number_field key low high) z
+    go : (l h : Bool) → le_z low z ≡ l → le_z z high ≡ h → refused_by (judged_number (cond (l && h) (Ok z) (Err error.Outside))) ≡ 0 → Fitting (number_field key low high) z
     go true true l h e = numbers_in_range_fit key low high z (le_z_yes (rw l tt)) (le_z_yes (rw h tt))
     go true false l h e = absurd (omega arith)
     go false h' l h e = absurd (omega arith)
@@ -101,7 +98,7 @@ marked_numbers_are_sound key low high key_line = (
   record { key_line = key_line; read_written = λ bytes m e. plain bytes m e },
 )
   where
-    same : (bytes : List ℕ) (z : ℤ) → number_in low high bytes ≡ number.Value z → written_number z ≡ bytes
+    same : (bytes : List ℕ) (z : ℤ) → number_in low high bytes ≡ Ok z → written_number z ≡ bytes
     same bytes z e = (numbers_are_sound key low high key_line).read_written bytes z (ap judged_number e)
 
     plain : (bytes : List ℕ) (m : Marked) → judged_marked (plain_number (number_in low high bytes)) ≡ good m → written_marked m ≡ bytes
@@ -122,7 +119,7 @@ marked_numbers_are_sound key low high key_line = (
 mark_line : (z : ℤ) → OneLine (written_number z ++ (63 ∷ []))
 mark_line z = one_line_append (written_number z) (63 ∷ []) (number_line z) (one_line (63 ∷ []) refl)
 
-module _ (key : List ℕ) (low high z : ℤ) (inside : in_range low high z ≡ number.Value z) where
+module _ (key : List ℕ) (low high z : ℤ) (inside : in_range low high z ≡ Ok z) where
   plain_fits : Fitting (marked_field key low high) (record { number = z; suspect = false })
   plain_fits =
       record {
@@ -149,20 +146,20 @@ module _ (key : List ℕ) (low high z : ℤ) (inside : in_range low high z ≡ n
 
 pub marked_numbers_in_range_fit : MarkedNumbersInRangeFit
 marked_numbers_in_range_fit key low high m l h =
-    let inside : in_range low high m.number ≡ number.Value m.number = rw (is_true (le_z low m.number) l.le, is_true (le_z m.number high) h.le) in
+    let inside : in_range low high m.number ≡ Ok m.number = rw (is_true (le_z low m.number) l.le, is_true (le_z m.number high) h.le) in
     go m.suspect inside
   where
-    go : (b : Bool) → in_range low high m.number ≡ number.Value m.number → Fitting (marked_field key low high) (record { number = m.number; suspect = b }) × (b ≡ false → Fitting (unmarked_field key low high) (record { number = m.number; suspect = b }))
+    go : (b : Bool) → in_range low high m.number ≡ Ok m.number → Fitting (marked_field key low high) (record { number = m.number; suspect = b }) × (b ≡ false → Fitting (unmarked_field key low high) (record { number = m.number; suspect = b }))
     go true inside = (suspect_fits key low high m.number inside, λ e. let n : ◌≡◌ {A = ℕ} 0 1 = cc in absurd (omega arith))
     go false inside = (plain_fits key low high m.number inside, λ e. unmarked_fits key low high m.number inside)
 
 -- a number that is refused by no number is in its range
-in_range_lem : (low high z : ℤ) (given : Number → MarkedNumber) → ((z : ℤ) → given number.Outside ≡ marked-number.Outside) → refused_by (judged_marked (given (in_range low high z))) ≡ 0 → in_range low high z ≡ number.Value z
+in_range_lem : (low high z : ℤ) (given : Result ℤ NumberError → Result Marked NumberError) → ((z : ℤ) → given (Err error.Outside) ≡ Err error.Outside) → refused_by (judged_marked (given (in_range low high z))) ≡ 0 → in_range low high z ≡ Ok z
 in_range_lem low high z given out e = go (le_z low z && le_z z high) e
   where
-    go : (b : Bool) → refused_by (judged_marked (given (cond b (number.Value z) number.Outside))) ≡ 0 → cond b (number.Value z) number.Outside ≡ number.Value z
+    go : (b : Bool) → refused_by (judged_marked (given (cond b (Ok z) (Err error.Outside)))) ≡ 0 → cond b (Ok z) (Err error.Outside) ≡ Ok z
     go true e = refl
-    go false e = absurd (omega (arith, ap (λ (n : MarkedNumber). refused_by (judged_marked n)) (out z)))
+    go false e = absurd (omega (arith, ap (λ (n : Result Marked NumberError). refused_by (judged_marked n)) (out z)))
 
 pub marked_numbers_fit_or_are_refused : MarkedNumbersFitOrAreRefused
 marked_numbers_fit_or_are_refused key low high = (λ m e. marked m.suspect m.number e, λ m e. unmarked m.suspect m.number e)
@@ -198,7 +195,7 @@ second_marks_are_badly_written key low high bytes =
     let twice : bytes ++ (63 ∷ 63 ∷ []) ≡ (bytes ++ (63 ∷ [])) ++ (63 ∷ []) = sym (append_assoc bytes (63 ∷ []) (63 ∷ [])) in
     let last = mark_behind (bytes ++ (63 ∷ [])) in
     let none_read = mark_no_number (bytes ++ (63 ∷ [])) (mark_behind bytes).0 in
-    let left : suspect_number (number_in low high (without_mark ((bytes ++ (63 ∷ [])) ++ (63 ∷ [])))) ≡ marked-number.Malformed = rw (last.1, none_read) in
+    let left : suspect_number (number_in low high (without_mark ((bytes ++ (63 ∷ [])) ++ (63 ∷ [])))) ≡ Err error.Malformed = rw (last.1, none_read) in
     ap judged_marked (ap (marked_in low high) twice ∙ sym (marked_suspect low high ((bytes ++ (63 ∷ [])) ++ (63 ∷ [])) last.0) ∙ left)
 
 -- ---- words
@@ -212,8 +209,8 @@ words_fit key words index found line some_bytes = record { written_line = line; 
 pub words_fit_or_are_refused : WordsFitOrAreRefused
 words_fit_or_are_refused key words each index e = go (word_in words (written_word words index)) refl e
   where
-    go : (read : Word) → word_in words (written_word words index) ≡ read → refused_by (judged_word read) ≡ 0 → Fitting (word_field key words) index
-    go (word.Index found) h e = listed (ltb index (length words)) refl
+    go : (read : Found ℕ) → word_in words (written_word words index) ≡ read → refused_by (judged_word read) ≡ 0 → Fitting (word_field key words) index
+    go (Some found) h e = listed (ltb index (length words)) refl
       where
         -- past the list no bytes are written, and no word of it is empty
         listed : (b : Bool) → ltb index (length words) ≡ b → Fitting (word_field key words) index
@@ -223,7 +220,7 @@ words_fit_or_are_refused key words each index e = go (word_in words (written_wor
             let empty : written_word words found ≡ [] = word_written key words [] found (rw (← none, h)) in
             let some = (each found (word_below words (written_word words index) h)).not_empty in
             absurd (omega (arith, ap length empty))
-    go word.Unknown h e = absurd (omega arith)
+    go None h e = absurd (omega arith)
 
 -- a list that is written out: no word twice, none empty, each on one line
 pub listed_words_fit : (key : List ℕ) (words : List (List ℕ)) → distinct words ≡ true → none_empty words ≡ true → EachOneLine words → FitsOrRefused (word_field key words)
@@ -241,7 +238,7 @@ ids_fit key id e = let known = id_bytes id e in record { written_line = known.li
 pub ids_fit_or_are_refused : IdsFitOrAreRefused
 ids_fit_or_are_refused key bytes e = go (is_id bytes) refl e
   where
-    go : (b : Bool) → is_id bytes ≡ b → refused_by (judged_id bytes (cond b id.Valid id.Malformed)) ≡ 0 → Fitting (id_field key) bytes
+    go : (b : Bool) → is_id bytes ≡ b → refused_by (judged_id bytes b) ≡ 0 → Fitting (id_field key) bytes
     go true h e = ids_fit key bytes h
     go false h e = absurd (omega arith)
 

@@ -1,14 +1,13 @@
 -- Named statements on reading and writing by any schema, over any kind of value. A set of values has exactly one text.
-use Rattle.std.specs.Prelude.{ℕ, ◌+◌, ◌<◌, ◌≡◌, true, false, List, [], ◌∷◌, ◌++◌, ℤ, length, ◌≤ℤ◌}
+use Rattle.std.specs.Prelude.{ℕ, ◌+◌, ◌<◌, ◌≡◌, true, false, List, [], ◌∷◌, ◌++◌, ℤ, length, ◌≤ℤ◌, Ok, Some}
 use Rattle.text_line.specs.Judged.{good, bad}
 use Rattle.text_line.specs.Line.{OneLine}
 use Rattle.text_line.specs.Piece.{part}
 use Rattle.text_line.specs.Field.{Field}
-use Rattle.text_line.specs.declared.Lines.TheVariants as lines
 use Rattle.text_number.specs.Field.{number_field}
-use Rattle.text_number.specs.Marked.{Marked, marked_field, unmarked_field}
+use Rattle.text_number.specs.declared.marked.Marked.{Marked}
+use Rattle.text_number.specs.Marked.{marked_field, unmarked_field}
 use Rattle.text_word.specs.Word.{word_in, written_word, word_field}
-use Rattle.text_word.specs.declared.Word.TheVariants as word
 use Rattle.text_id.specs.Id.{is_id, id_field}
 use Rattle.text_schema.specs.Schema.{read_fields, write_fields}
 use Rattle.text_schema.specs.Checked.{refused_by}
@@ -37,19 +36,19 @@ pub data AllFitting {A : Type 0} : List (Field A) → List A → Type 0 where
 abbrev pub WrittenIsReadBack : Type 1
 WrittenIsReadBack =
     (A : Type 0) (fields : List (Field A)) (values : List A) (before after : List ℕ) → AllSound fields → AllFitting fields values →
-    read_fields fields (before ++ write_fields fields values ++ after) (length before) ≡ record { values = values; end = lines.Read (length before + length (write_fields fields values)) }
+    read_fields fields (before ++ write_fields fields values ++ after) (length before) ≡ record { values = values; end = Ok (length before + length (write_fields fields values)) }
 
 -- read then write: the same bytes
 abbrev pub ReadIsWrittenBack : Type 1
 ReadIsWrittenBack =
     (A : Type 0) (fields : List (Field A)) (text : List ℕ) (at next : ℕ) → AllSound fields →
-    (read_fields fields text at).end ≡ lines.Read next → part text at next ≡ write_fields fields (read_fields fields text at).values
+    (read_fields fields text at).end ≡ Ok next → part text at next ≡ write_fields fields (read_fields fields text at).values
 
 -- values have one text: two whole texts that are read as the same values are the same bytes
 abbrev pub OneText : Type 1
 OneText =
     (A : Type 0) (fields : List (Field A)) (one other : List ℕ) → AllSound fields →
-    (read_fields fields one 0).end ≡ lines.Read (length one) → (read_fields fields other 0).end ≡ lines.Read (length other) →
+    (read_fields fields one 0).end ≡ Ok (length one) → (read_fields fields other 0).end ≡ Ok (length other) →
     (read_fields fields one 0).values ≡ (read_fields fields other 0).values → one ≡ other
 
 -- a kind of value of which each is written on a line that is read as that value, or is refused by a number: nothing else is written
@@ -102,7 +101,7 @@ WordsAreSound = (key : List ℕ) (words : List (List ℕ)) → OneLine key → S
 -- a word fits that is one line, is not empty and stands nowhere earlier in the list
 abbrev pub WordsFit : Type 0
 WordsFit =
-    (key : List ℕ) (words : List (List ℕ)) (index : ℕ) → word_in words (written_word words index) ≡ word.Index index → OneLine (written_word words index) →
+    (key : List ℕ) (words : List (List ℕ)) (index : ℕ) → word_in words (written_word words index) ≡ Some index → OneLine (written_word words index) →
     0 < length (written_word words index) → Fitting (word_field key words) index
 
 abbrev pub IdsAreSound : Type 0

@@ -1,31 +1,18 @@
--- Laws of lines: one byte on, and at the end.
+-- Laws of lines: what a line begins with, and what a line is that ends at a position.
 use Prim.Native.Nat.{ℕ, suc, ◌+◌, ◌-◌, ◌≤◌, ◌<◌}
-use native.Mathlib.Numerals.{add-one}
 use native.Mathlib.Omega.{arith}
-use mathlib.Core.Bool.{Bool, true, false, cond}
+use mathlib.Core.Bool.{Bool, true, false, not, ◌&&◌, ◌||◌, cond}
 use mathlib.Core.List.{List, [], ◌∷◌}
 use mathlib.Core.Path.{◌≡◌, refl, sym, ap, ◌∙◌}
-use lib.ListN.{length, take, drop, get_or, drop_of_length-le, length-drop}
+use lib.ListN.{length, take, drop, length-drop}
 use lib.Dec.{eqb, ltb}
-use lib.Seq.{drop-cons, drop-drop, take-nil}
+use lib.Seq.{drop-drop}
 use borrow.Author.Tests.{lt-ltb, le-ltb, ltb-true, ltb-false, eq-eqb, ne_eqb, eqb-true, eqb-false}
+use Rattle.std.specs.List.{starts_with, list_any}
 use Rattle.text_line.specs.Line.{line_length, begins, line_in, line_at, value_or_none, value_at}
 use Rattle.text_line.specs.Piece.{part}
 use Rattle.text_line.proofs.Parts.{part_whole}
 use Rattle.text_line.specs.Judged.{good, bad}
-
-module _ (s : List ℕ) (i : ℕ) where
-  pub line_over : length s ≤ i → line_length (drop i s) ≡ 0
-  unfolding line_length
-  line_over h = rw (drop_of_length-le s {i = i} h)
-
-  pub line_ends : i < length s → get_or s i 0 ≡ 10 → line_length (drop i s) ≡ 0
-  unfolding line_length
-  line_ends h e = rw (drop-cons s i 0 h, eq-eqb (get_or s i 0) 10 e)
-
-  pub line_goes_on : i < length s → (get_or s i 0 ≡ 10 → ⊥) → line_length (drop i s) ≡ suc (line_length (drop (i + 1) s))
-  unfolding line_length
-  line_goes_on h n = rw (add-one, drop-cons s i 0 h, ne_eqb (get_or s i 0) 10 n)
 
 pub line_within : (s : List ℕ) → line_length s ≤ length s
 unfolding line_length
@@ -40,41 +27,27 @@ line_within (byte ∷ s) = go (eqb byte 10) (line_within s)
 abbrev first_line : List ℕ → List ℕ
 first_line s = take (line_length s) s
 
--- a key held against the first line, from a position on in both
-module _ (key s : List ℕ) (i : ℕ) where
-  pub begins_over : length key ≤ i → begins (drop i key) (first_line (drop i s)) ≡ true
-  unfolding begins
-  begins_over h = rw (drop_of_length-le key {i = i} h)
+and_none : (b : Bool) → (b && false) ≡ false
+and_none true = refl
+and_none false = refl
 
-  module _ (h : i < length key) where
-    pub begins_short : length s ≤ i → begins (drop i key) (first_line (drop i s)) ≡ false
-    unfolding begins
-    begins_short l = rw (drop-cons key i 0 h, drop_of_length-le s {i = i} l, take-nil)
-
-    pub begins_ended : i < length s → get_or s i 0 ≡ 10 → begins (drop i key) (first_line (drop i s)) ≡ false
-    unfolding begins
-    begins_ended l e = rw (drop-cons key i 0 h, line_ends s i l e)
-
-    module _ (l : i < length s) (on : get_or s i 0 ≡ 10 → ⊥) where
-      first_line_lem : first_line (drop i s) ≡ get_or s i 0 ∷ first_line (drop (i + 1) s)
-      first_line_lem = rw (line_goes_on s i l on, add-one, drop-cons s i 0 l)
-
-      pub begins_other : (get_or s i 0 ≡ get_or key i 0 → ⊥) → begins (drop i key) (first_line (drop i s)) ≡ false
-      unfolding begins
-      begins_other n = rw (first_line_lem, drop-cons key i 0 h, ne_eqb (get_or s i 0) (get_or key i 0) n)
-
-      pub begins_same :
-          get_or s i 0 ≡ get_or key i 0 → begins (drop i key) (first_line (drop i s)) ≡ begins (drop (i + 1) key) (first_line (drop (i + 1) s))
-      unfolding begins
-      begins_same e = rw (first_line_lem, drop-cons key i 0 h, eq-eqb (get_or s i 0) (get_or key i 0) e, add-one)
-
--- a byte that differs, whether or not it ends the line
-pub begins_differs : (key s : List ℕ) (i : ℕ) → i < length key → i < length s → (get_or s i 0 ≡ get_or key i 0 → ⊥) → begins (drop i key) (first_line (drop i s)) ≡ false
-begins_differs key s i h l n = go (eqb (get_or s i 0) 10) refl
+-- a text begins with a key whose bytes are its first ones, none of them a byte 10
+pub begins_starts : (key s : List ℕ) → begins key (first_line s) ≡ (starts_with eqb s key && not (list_any (λ letter. eqb letter 10) key))
+unfolding begins line_length
+begins_starts [] s = refl
+begins_starts (letter ∷ key) [] = refl
+begins_starts (letter ∷ key) (byte ∷ s) = go (eqb letter byte) refl (eqb letter 10) refl (begins_starts key s)
   where
-    go : (t : Bool) → eqb (get_or s i 0) 10 ≡ t → begins (drop i key) (first_line (drop i s)) ≡ false
-    go true t = begins_ended key s i h l (eqb-true (get_or s i 0) 10 t)
-    go false t = begins_other key s i h l (eqb-false (get_or s i 0) 10 t) n
+    go :
+        (same : Bool) → eqb letter byte ≡ same → (ends : Bool) → eqb letter 10 ≡ ends → begins key (first_line s) ≡ (starts_with eqb s key && not (list_any (λ other. eqb other 10) key)) →
+        begins (letter ∷ key) (take (cond (eqb byte 10) 0 (suc (line_length s))) (byte ∷ s)) ≡ ((same && starts_with eqb s key) && not (ends || list_any (λ other. eqb other 10) key))
+    go true h true e others = rw (← eqb-true letter byte h, e) (sym (and_none (starts_with eqb s key)))
+    go true h false e others = rw (← eqb-true letter byte h, e, eq-eqb letter letter refl) others
+    go false h ends e others = other (eqb byte 10) refl
+      where
+        other : (ended : Bool) → eqb byte 10 ≡ ended → begins (letter ∷ key) (take (cond ended 0 (suc (line_length s))) (byte ∷ s)) ≡ false
+        other true t = refl
+        other false t = rw (ne_eqb byte letter (λ is. eqb-false letter byte h (sym is)))
 
 -- a line that begins with a key goes on after it
 pub line_after : (key s : List ℕ) → begins key (first_line s) ≡ true → line_length s ≡ length key + line_length (drop (length key) s)
@@ -93,14 +66,6 @@ line_after (letter ∷ key) (byte ∷ s) b = go (eqb byte 10) b (line_after key 
         cond ended 0 (suc (line_length s)) ≡ suc (length key) + line_length (drop (length key) s)
     go true b others = cc
     go false b others = omega (arith, others (same (eqb byte letter) b))
-
--- a text shorter than a key does not begin with it
-pub begins_few : (key s : List ℕ) → length s < length key → begins key (first_line s) ≡ false
-begins_few key s h = go (begins key (first_line s)) refl
-  where
-    go : (b : Bool) → begins key (first_line s) ≡ b → b ≡ false
-    go true e = absurd (omega (arith, line_after key s e, line_within s))
-    go false e = refl
 
 -- what a line is that starts at a position and is found to end at another one
 module _ (key s : List ℕ) (at end : ℕ) (ends : end ≡ at + line_length (drop at s)) where

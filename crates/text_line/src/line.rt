@@ -2,43 +2,27 @@
 ghost use Rattle.std.specs.Prelude.{◌≡◌, ◌≤◌, ◌+◌, length, take, drop};
 ghost use Rattle.text_line.specs.Line.{line_length, begins, value_at, line_fault, value_fault};
 
+use crate::piece::mark_at;
 use text_refusal::refusal::Fault;
 
 // Where the line that starts at a position ends: at its byte 10, or at the text's end.
+#[tactic(auto, using(crate::proofs::Marks::line_marked, crate::proofs::Marks::line_unmarked, crate::proofs::Parts::part_whole))]
 fn line_end(text: &[u8], at: usize) -> usize
     requires { at ≤ length text.now }
     ensures { result ≡ at + line_length (drop at text.now) }
 {
-    let mut i = at;
-    while i < text.len() {
-        if text[i] == 10 {
-            return i;
-        }
-        i += 1;
+    match mark_at(&text[at..], b'\n') {
+        Some(length) => at + length,
+        None => text.len(),
     }
-    i
 }
 
 // Whether a text begins with a key, all of it in the text's first line.
-#[tactic(auto, using(crate::proofs::DueLines::begins_few, crate::proofs::DueLines::begins_over, crate::proofs::DueLines::begins_ended, crate::proofs::DueLines::begins_differs, crate::proofs::DueLines::begins_same))]
+#[tactic(auto, using(crate::proofs::DueLines::begins_starts))]
 pub fn begins_with(text: &[u8], key: &[u8]) -> bool
     ensures { result ≡ begins key.now (take (line_length text.now) text.now) }
 {
-    if text.len() < key.len() {
-        return false;
-    }
-    let mut i: usize = 0;
-    while i < key.len() {
-        let byte = text[i];
-        if byte != key[i] {
-            return false;
-        }
-        if byte == 10 {
-            return false;
-        }
-        i += 1;
-    }
-    true
+    text.starts_with(key) && !key.contains(&b'\n')
 }
 
 // The value of the line that is due at a position, as a part of the text; no bytes where the line is refused, since an empty value is refused too.

@@ -1,5 +1,5 @@
-// Parts of a byte string: from one position to another, and pieces, each ended by one mark, as the keys of a schema by `=`.
-ghost use Rattle.std.specs.Prelude.{◌≡◌, ◌+◌, drop};
+// Parts of a byte string: from one position to another, up to a mark, and pieces, each ended by one mark, as the keys of a schema by `=`.
+ghost use Rattle.std.specs.Prelude.{◌≡◌, ◌+◌, ◌==◌, drop, position};
 ghost use Rattle.text_line.specs.Piece.{part, piece_length};
 
 // A part of a text, from one position to another; no bytes where there is no such part.
@@ -18,16 +18,23 @@ pub fn part(text: &[u8], start: usize, end: usize) -> &[u8]
     &text[start..end]
 }
 
+// Where a mark stands first among some bytes.
+pub fn mark_at(bytes: &[u8], mark: u8) -> Option<usize>
+    ensures { result ≡ position (λ byte. byte == mark) bytes.now }
+{
+    bytes.iter().position(|&byte| byte == mark)
+}
+
 // Where the piece that starts at a position ends, past its mark; the position itself where no piece is left.
+#[tactic(auto, using(crate::proofs::Marks::piece_marked, crate::proofs::Marks::piece_unmarked, crate::proofs::Marks::piece_past, crate::proofs::Parts::part_whole))]
 pub fn piece_end(bytes: &[u8], from: usize, mark: u8) -> usize
     ensures { result ≡ from + piece_length mark (drop from bytes.now) }
 {
-    let mut i = from;
-    while i < bytes.len() {
-        if bytes[i] == mark {
-            return i + 1;
-        }
-        i += 1;
+    if bytes.len() <= from {
+        return from;
     }
-    from
+    match mark_at(&bytes[from..], mark) {
+        Some(length) => from + length + 1,
+        None => from,
+    }
 }

@@ -13,7 +13,8 @@ use Rattle.integer.proofs.Bounds.{fits_abs}
 use Rattle.text_line.specs.Field.{Field}
 use Rattle.text_line.proofs.Pieces.{computed_pieces}
 use Rattle.text_number.specs.Number.{written_number}
-use Rattle.text_number.specs.Marked.{Marked, first_marked, marked_by}
+use Rattle.text_number.specs.declared.marked.Marked.{Marked}
+use Rattle.text_number.specs.Marked.{first_marked, marked_by}
 use Rattle.text_number.proofs.Marks.{by_first}
 use Rattle.text_number.proofs.WrittenDigits.{written_within}
 use Rattle.text_schema.specs.Schema.{keys_of}

@@ -4,7 +4,7 @@ use native.Mathlib.Nat.{add-zero, add_assoc}
 use native.Mathlib.Numerals.{add-one}
 use native.Mathlib.Omega.{arith}
 use mathlib.Core.List.{List, [], ◌∷◌, ◌++◌, append_assoc, append-nil}
-use mathlib.Core.Path.{◌≡◌, sym, ap, ◌∙◌}
+use mathlib.Core.Path.{◌≡◌, refl, sym, ap, ◌∙◌}
 use lib.ListN.{length, take, drop, get_or, set, length-append, length-drop, take-append-drop}
 use lib.Seq.{length-take-le, take_at, drop_at, take-append-le, take-take, drop-drop, drop-append-add, set_split, take-suc}
 use Rattle.text_writer.specs.Write.{laid_at, TextLaid}
@@ -70,6 +70,16 @@ laid_both {buffer} {middle} {after} {at} {next} {last} {one} {other} first then 
       ends = omega (arith, first.ends, then.ends, length-append one other);
       bytes = then.bytes ∙ rw (first.ends, first.bytes) (laid_then buffer at one room other);
     }
+
+-- no byte is laid yet
+pub laid_start : (buffer : List ℕ) (at : ℕ) → TextLaid [] buffer at buffer at
+laid_start buffer at = record { ends = omega arith; bytes = sym (laid_none buffer at) }
+
+-- a text laid, and a byte where it ends
+pub laid_end : {buffer middle : List ℕ} {at next : ℕ} {one : List ℕ} (byte : ℕ) → TextLaid one buffer at middle next → at + length one < length buffer → TextLaid (one ++ (byte ∷ [])) buffer at (set middle next byte) (next + 1)
+laid_end {buffer} {middle} {at} {next} {one} byte first room =
+    let long : length middle ≡ length buffer = omega (arith, ap length first.bytes, laid_length buffer at one (omega arith)) in
+    laid_both first (record { ends = refl; bytes = laid_byte middle next byte (omega (arith, first.ends)) }) (omega arith)
 
 -- one byte more of some bytes
 pub laid_next : (buffer : List ℕ) (at : ℕ) (bytes : List ℕ) (i : ℕ) → i < length bytes → at + i < length buffer → set (laid_at buffer at (take i bytes)) (at + i) (get_or bytes i 0) ≡ laid_at buffer at (take (i + 1) bytes)

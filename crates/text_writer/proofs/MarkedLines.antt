@@ -7,22 +7,25 @@ use mathlib.Core.List.{List, [], ◌∷◌, ◌++◌, append_assoc, append-nil}
 use mathlib.Core.Path.{◌≡◌, refl, sym, ap, ◌∙◌}
 use borrow.Author.Tests.{eqb-true, eqb-false}
 use lib.Dec.{eqb}
-use lib.IntN.{ℤ, pos}
+use lib.IntN.{ℤ, pos, nat_abs}
+use lib.Signed.{lt_z}
 use lib.ListN.{length, drop, get_or, length-append, length-drop, drop_of_length-le}
 use lib.Seq.{drop-cons, length-take-le}
 use Rattle.text_line.specs.Field.{Field}
 use Rattle.text_line.specs.Piece.{part, piece_length}
 use Rattle.text_line.proofs.Pieces.{piece_none, piece_next, piece_fits}
 use Rattle.text_number.specs.Number.{written_number}
-use Rattle.text_number.specs.Marked.{Marked, written_marked, marked_field, unmarked_field, first_marked, marked_by}
+use Rattle.text_number.specs.declared.marked.Marked.{Marked}
+use Rattle.text_number.specs.Marked.{written_marked, marked_field, unmarked_field, first_marked, marked_by}
 use Rattle.text_number.proofs.Marks.{unmarked_written, suspect_written, by_none, by_first, by_unmarked}
 use Rattle.text_schema.specs.Schema.{keys_of}
 use Rattle.text_schema.specs.Checked.{checked_line, checked_lines, text_of}
 use Rattle.text_schema.proofs.Checked.{text_none, text_first, checked_none, checked_no_values, checked_first}
 use Rattle.text_schema.proofs.MarkedWidths.{MarkedWidths, no_widths, marked_width, unmarked_width, marked_length}
 use Rattle.text_writer.specs.Write.{written_line, written_numbers, written_marked_line, written_marked_lines, laid_at, TextLaid}
-use Rattle.text_writer.proofs.Laid.{laid_length, laid_then, laid_again}
-use Rattle.text_writer.proofs.Writing.{no_keys, no_values, first_line}
+use Rattle.text_writer.proofs.Laid.{laid_length, laid_then, laid_again, laid_both}
+use Rattle.text_writer.specs.internal.Signed.{signed_value}
+use Rattle.text_writer.proofs.Writing.{no_keys, no_values, first_line, written_signed}
 
 -- ---- one line
 
@@ -43,25 +46,39 @@ marked_line_length key z suspect =
 pub line_unmarked : (key : List ℕ) (z : ℤ) → written_marked_line key (record { number = z; suspect = false }) ≡ written_line key z
 line_unmarked key z = rw (unmarked_written z)
 
+-- a number written with the mark that it has, and byte 10: by the number's sign and magnitude where it has none
+abbrev pub marked_value : ℤ → Bool → List ℕ
+marked_value z suspect = written_marked (record { number = z; suspect = suspect }) ++ (10 ∷ [])
+
+pub value_unmarked : (z : ℤ) (negative : Bool) → lt_z z (pos 0) ≡ negative → marked_value z false ≡ signed_value negative (nat_abs z)
+value_unmarked z negative e = rw (unmarked_written z, written_signed z negative e)
+
 -- a mark laid in place of byte 10, which follows it
 pub mark_laid :
-    (key : List ℕ) (z : ℤ) {buffer middle after : List ℕ} {at next last : ℕ} → TextLaid (written_line key z) buffer at middle next → TextLaid (63 ∷ (10 ∷ [])) middle (next - 1) after last →
-    at + length (written_marked_line key (record { number = z; suspect = true })) ≤ length buffer → TextLaid (written_marked_line key (record { number = z; suspect = true })) buffer at after last
-mark_laid key z {buffer} {middle} {after} {at} {next} {last} line mark room =
-    let front : List ℕ = key ++ written_number z in
-    let whole : written_marked_line key (record { number = z; suspect = true }) ≡ front ++ (63 ∷ (10 ∷ [])) = rw (suspect_written z) (simp append_assoc) in
+    (z : ℤ) {buffer middle after : List ℕ} {at next last : ℕ} → TextLaid (marked_value z false) buffer at middle next → TextLaid (63 ∷ (10 ∷ [])) middle (next - 1) after last →
+    at + length (marked_value z true) ≤ length buffer → TextLaid (marked_value z true) buffer at after last
+mark_laid z {buffer} {middle} {after} {at} {next} {last} value mark room =
+    let front : List ℕ = written_number z in
+    let plain : TextLaid (front ++ (10 ∷ [])) buffer at middle next = rw (unmarked_written z) at value in
+    let whole : marked_value z true ≡ front ++ (63 ∷ (10 ∷ [])) = rw (suspect_written z) (append_assoc front (63 ∷ []) (10 ∷ [])) in
     let long : length (front ++ (63 ∷ (10 ∷ []))) ≡ length front + 2 = length-append front (63 ∷ (10 ∷ [])) in
-    let place : next - 1 ≡ at + length front = omega (arith, line.ends, length-append front (10 ∷ [])) in
+    let place : next - 1 ≡ at + length front = omega (arith, plain.ends, length-append front (10 ∷ [])) in
     let fits : at + length front + 2 ≤ length buffer = omega (arith, ap length whole) in
     rw whole
     (record {
       ends = omega (arith, mark.ends);
       bytes =
           mark.bytes
-          ∙ rw (place, line.bytes, ← laid_then buffer at front (omega arith) (10 ∷ []))
+          ∙ rw (place, plain.bytes, ← laid_then buffer at front (omega arith) (10 ∷ []))
           (laid_again (laid_at buffer at front) (at + length front) (10 ∷ []) (omega (arith, laid_length buffer at front (omega arith))) (63 ∷ (10 ∷ [])) (omega arith))
           ∙ laid_then buffer at front (omega arith) (63 ∷ (10 ∷ []));
     })
+
+-- a key laid, and the number behind it
+pub line_laid :
+    (key : List ℕ) (z : ℤ) (suspect : Bool) {buffer middle after : List ℕ} {at next last : ℕ} → TextLaid key buffer at middle next → TextLaid (marked_value z suspect) middle next after last →
+    at + length key ≤ length buffer → TextLaid (written_marked_line key (record { number = z; suspect = suspect })) buffer at after last
+line_laid key z suspect first value room = rw (append_assoc key (written_marked (record { number = z; suspect = suspect })) (10 ∷ [])) (laid_both first value room)
 
 -- ---- lines one after the other
 

@@ -15,10 +15,10 @@ use Rattle.text_writer.specs.Output.{refusal_lines}
 use Rattle.text_writer.specs.Write.{written_line}
 use Rattle.text_writer.proofs.Writing.{line_length}
 
-pub refusal-length : (found : Refusal) (name : List ℕ) →
+pub refusal_length : (found : Refusal) (name : List ℕ) →
     length (refusal_lines found name) ≡ 21 + length (digits_of found.number) + length (digits_of found.line) + length name
 unfolding refusal_lines
-refusal-length found name =
+refusal_length found name =
     let one = written_line (bytes "refused=") (pos found.number) in
     let two = written_line (bytes "line=") (pos found.line) in
     let three = bytes "text=" ++ (name ++ (10 ∷ [])) in
@@ -42,4 +42,4 @@ refusal-signed found name = rw (written_natural found.number, written_natural fo
 -- how long they can be at most
 pub refusal_short : (found : Refusal) (name : List ℕ) → found.number < 2 ^ 64 → found.line < 2 ^ 64 → length name ≤ 8 → length (refusal_lines found name) ≤ 256
 refusal_short found name number line short =
-    omega (arith, refusal-length found name, twenty_digits found.number number, twenty_digits found.line line)
+    omega (arith, refusal_length found name, twenty_digits found.number number, twenty_digits found.line line)

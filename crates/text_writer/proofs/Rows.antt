@@ -4,13 +4,13 @@ use native.Mathlib.Numerals.{add-one}
 use native.Mathlib.Omega.{arith}
 use mathlib.Core.Bool.{Bool, true, false}
 use mathlib.Core.List.{List, [], ◌∷◌, ◌++◌, append_assoc, append-nil}
+use mathlib.Core.Logic.{◌⊎◌, inl, inr}
 use mathlib.Core.Path.{◌≡◌, refl, sym, ap, ◌∙◌}
 use borrow.Author.Tests.{lt-ltb, le-ltb, ltb-true, ltb-false}
 use lib.Dec.{ltb}
 use lib.IntN.{ℤ, pos, nat_abs}
 use lib.Signed.{lt_z}
-use lib.ListN.{length, drop, get_or, set, length-append, length-drop, length-replicate, replicate-append-replicate, drop_of_length-le}
-use lib.Seq.{drop-cons}
+use lib.ListN.{length, drop, set, length-append, length-drop, length-replicate, replicate-append-replicate}
 use Rattle.text_number.specs.Number.{written_number}
 use Rattle.text_writer.specs.internal.Signed.{signed, cut_to}
 use Rattle.text_writer.specs.Row.{spaces, aligned_right, padded_right, number_cell, written_cells, written_row}
@@ -100,33 +100,28 @@ no_numbers [] = refl
 no_numbers (width ∷ widths) = refl
 
 -- the cells passed, and what the rest of the widths and values adds to them
-pub record CellsPassed (widths : List ℕ) (values : List ℤ) (i : ℕ) : Type 0 where
+pub record CellsPassed (widths : List ℕ) (values : List ℤ) (columns : List ℕ) (numbers : List ℤ) : Type 0 where
   pub done : List ℕ
-  pub whole : written_cells widths values ≡ done ++ written_cells (drop i widths) (drop i values)
+  pub whole : written_cells widths values ≡ done ++ written_cells columns numbers
 
-abbrev pub cells_none : (widths : List ℕ) (values : List ℤ) → CellsPassed widths values 0
-cells_none widths values = record { done = []; whole = refl }
+abbrev pub cells_none : {widths columns : List ℕ} {values numbers : List ℤ} → columns ≡ widths → numbers ≡ values → CellsPassed widths values columns numbers
+cells_none w v = record { done = []; whole = rw (w, v) }
 
-module _ {widths : List ℕ} {values : List ℤ} {i : ℕ} (passed : CellsPassed widths values i) where
-  -- no value is left
-  pub cells_values : length values ≤ i → written_cells widths values ≡ passed.done
-  cells_values h = passed.whole ∙ rw (drop_of_length-le values {i = i} h, no_numbers (drop i widths)) (append-nil passed.done)
-
-  -- no column is left
-  pub cells_widths : length widths ≤ i → written_cells widths values ≡ passed.done
-  unfolding written_cells
-  cells_widths h = passed.whole ∙ rw (drop_of_length-le widths {i = i} h) (append-nil passed.done)
+module _ {widths : List ℕ} {values : List ℤ} {columns : List ℕ} {numbers : List ℤ} (passed : CellsPassed widths values columns numbers) where
+  -- no column is left, or no value
+  pub cells_over : (columns ≡ []) ⊎ (numbers ≡ []) → written_cells widths values ≡ passed.done
+  cells_over (inl e) = passed.whole ∙ rw (e, no_cells numbers) (append-nil passed.done)
+  cells_over (inr e) = passed.whole ∙ rw (e, no_numbers columns) (append-nil passed.done)
 
   pub cells_within : length passed.done ≤ length (written_cells widths values)
-  cells_within = omega (arith, ap length passed.whole, length-append passed.done (written_cells (drop i widths) (drop i values)))
+  cells_within = omega (arith, ap length passed.whole, length-append passed.done (written_cells columns numbers))
 
   -- one cell more
-  pub cells_next : i < length widths → i < length values → (next : CellsPassed widths values (i + 1)) × (next.done ≡ passed.done ++ number_cell (get_or widths i 0) (get_or values i (pos 0)))
-  unfolding written_cells
-  cells_next w v = (
+  pub cells_next : {width : ℕ} {further : List ℕ} {value : ℤ} {others : List ℤ} → columns ≡ width ∷ further → numbers ≡ value ∷ others → (next : CellsPassed widths values further others) × (next.done ≡ passed.done ++ number_cell width value)
+  cells_next {width} {further} {value} {others} w v = (
     record {
-      done = passed.done ++ number_cell (get_or widths i 0) (get_or values i (pos 0));
-      whole = passed.whole ∙ rw (drop-cons widths i 0 w, drop-cons values i (pos 0) v, add-one i) (simp append_assoc);
+      done = passed.done ++ number_cell width value;
+      whole = passed.whole ∙ rw (w, v, first_cell width further value others) (sym (append_assoc passed.done (number_cell width value) (written_cells further others)));
     },
     refl,
   )

@@ -1,19 +1,26 @@
 -- How many bytes lines of short numbers have at most.
-use Prim.Native.Nat.{ℕ, suc, ◌+◌, ◌*◌, ◌≤◌, ◌<◌}
+use Prim.Native.Nat.{ℕ, suc, ◌+◌, ◌*◌, ◌/◌, ◌≤◌}
 use native.Mathlib.Omega.{arith}
 use mathlib.Core.Bool.{Bool, true, false, cond}
 use mathlib.Core.List.{List, [], ◌∷◌, ◌++◌}
-use mathlib.Core.Path.{◌≡◌, refl, ap}
-use borrow.Author.Tests.{ltb-true, ltb-false}
+use borrow.Author.Tests.{ltb-true}
 use lib.Dec.{eqb, ltb}
-use lib.IntN.{ℤ, pos, nat_abs}
-use lib.ListN.{length, get_or, length-append}
+use Rattle.std.proofs.Common.{◌≡◌, refl, ◌&&◌}
+use Rattle.std.proofs.lemmas.Bool.{false≢true}
+use Rattle.std.specs.List.{list_all}
+use lib.IntN.{ℤ, nat_abs}
+use lib.ListN.{length, length-append}
 use Rattle.text_line.proofs.Pieces.{computed_pieces}
 use Rattle.text_number.proofs.WrittenDigits.{written_within}
 use Rattle.text_schema.specs.Schema.{keys_of}
 use Rattle.text_schema.proofs.Fields.{keys_computed}
-use Rattle.text_writer.specs.Write.{written_line, written_numbers}
-use Rattle.text_writer.proofs.Writing.{line_length, first_line}
+use Rattle.text_number.specs.Marked.{first_marked, marked_by}
+use Rattle.text_writer.specs.Write.{written_marked_line, written_marked_lines}
+use Rattle.text_writer.proofs.MarkedLines.{first_mark, marked_line_length}
+
+and_true : (a b : Bool) → (a && b) ≡ true → (a ≡ true) × (b ≡ true)
+and_true true b e = (refl, e)
+and_true false b e = absurd (false≢true e)
 
 abbrev pub key_bytes : List (List ℕ) → ℕ
 key_bytes [] = 0
@@ -32,22 +39,23 @@ computed_bytes front (byte ∷ rest) = go (eqb byte 61) (computed_bytes [] rest)
 pub key_bytes_within : (keys : List ℕ) → key_bytes (keys_of keys) ≤ length keys
 key_bytes_within keys = rw (keys_computed keys) (omega (arith, computed_bytes [] keys))
 
--- the numbers before a place have at most seven digits
-abbrev pub ShortTo : List ℤ → ℕ → Type 0
-ShortTo values i = (k : ℕ) → k < i → nat_abs (get_or values k (pos 0)) < 10000000
+-- whether a number has at most seven digits
+abbrev pub is_short : ℤ → Bool
+is_short z = ltb (nat_abs z) 10000000
 
-pub short_next : (values : List ℤ) (i : ℕ) → ShortTo values i → nat_abs (get_or values i (pos 0)) < 10000000 → ShortTo values (i + 1)
-short_next values i short next k less = go (ltb k i) refl
-  where
-    go : (b : Bool) → ltb k i ≡ b → nat_abs (get_or values k (pos 0)) < 10000000
-    go true e = short k (ltb-true k i e)
-    go false e = let here : k ≡ i = omega (arith, ltb-false k i e) in rw here next
-
--- each line of such a number has at most eight bytes after its key, and byte 10
-pub short_lines : (keys : List (List ℕ)) (values : List ℤ) → ShortTo values (length values) →
-    length (written_numbers keys values) ≤ key_bytes keys + 9 * length values
-unfolding written_numbers
-short_lines [] values short = omega arith
-short_lines (key ∷ keys) [] short = omega arith
-short_lines (key ∷ keys) (z ∷ values) short =
-    omega (arith, ap length (first_line key keys z values), length-append (written_line key z) (written_numbers keys values), line_length key z, written_within 6 z (short 0 (omega arith)), short_lines keys values (λ k more. short (suc k) (omega arith)))
+-- each line of such a number has at most eight bytes after its key, a mark, and byte 10
+pub short_lines : (keys : List (List ℕ)) (values : List ℤ) (marks : ℕ) → list_all is_short values ≡ true → length (written_marked_lines keys (marked_by marks values)) ≤ key_bytes keys + 10 * length values
+unfolding written_marked_lines marked_by
+short_lines [] values marks short = omega arith
+short_lines (key ∷ keys) [] marks short = omega arith
+short_lines (key ∷ keys) (z ∷ values) marks short =
+    let line : List ℕ = written_marked_line key (record { number = z; suspect = first_marked marks }) in
+    let both = and_true (is_short z) (list_all is_short values) short in
+    omega (
+      arith,
+      length-append line (written_marked_lines keys (marked_by (marks / 2) values)),
+      marked_line_length key z (first_marked marks),
+      first_mark marks,
+      written_within 6 z (ltb-true (nat_abs z) 10000000 both.0),
+      short_lines keys values (marks / 2) both.1,
+    )

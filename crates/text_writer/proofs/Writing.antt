@@ -1,6 +1,5 @@
 -- Laws of the writing loops: digits laid from the last to the first, and lines one after the other.
 use Prim.Native.Nat.{ℕ, suc, ◌+◌, ◌-◌, ◌/◌, ◌%◌, ◌≤◌, ◌<◌}
-use native.Mathlib.Numerals.{add-one}
 use native.Mathlib.Omega.{arith}
 use mathlib.Core.Bool.{Bool, true, false, cond}
 use mathlib.Core.List.{List, [], ◌∷◌, ◌++◌, append_assoc, append-nil}
@@ -8,20 +7,16 @@ use mathlib.Core.Path.{◌≡◌, refl, sym, ap, ◌∙◌}
 use lib.IntN.{ℤ, pos, negsuc, nat_abs}
 use lib.Dec.{leb, le→leb}
 use lib.Signed.{lt_z, le_z_yes, <ℤ_irrefl, <ℤ-≤ℤ_trans}
-use lib.ListN.{length, take, drop, get_or, set, length-append, length-set, length-drop, drop_of_length-le}
-use lib.Seq.{drop-cons, drop_at, length-take-le}
+use lib.ListN.{length, take, drop, set, length-append, length-set, length-drop}
+use lib.Seq.{drop_at}
 use mir.Val.{bool_byte}
 use borrow.Author.Tests.{le-leb, lt-leb, leb-true}
 use Rattle.integer.proofs.Order.{lt_z-true, lt_z-false}
 use Rattle.text_number.specs.Number.{digits_of, written_number}
-use Rattle.text_line.specs.Piece.{part, piece_length}
-use Rattle.text_schema.specs.Schema.{keys_of}
 use Rattle.text_writer.specs.internal.Signed.{sign_of, signed, signed_line, cut_to}
 use Rattle.text_writer.specs.Write.{laid_at, written_line, written_numbers, TextLaid, TextWritten}
-use Rattle.text_writer.specs.declared.Written.{Written}
-use Rattle.text_writer.specs.declared.Written.TheVariants as written
+use Rattle.std.specs.Prelude.{Option, Some, None}
 use Rattle.text_number.proofs.WrittenDigits.{digits_one, digits_more, written_natural, written_below}
-use Rattle.text_line.proofs.Pieces.{piece_none, piece_next, piece_fits}
 use Rattle.text_writer.proofs.Laid.{laid_none, laid_behind, laid_ahead, laid_less}
 
 -- ---- a number by its sign and magnitude
@@ -159,67 +154,20 @@ pub first_line : (key : List ℕ) (keys : List (List ℕ)) (z : ℤ) (values : L
 unfolding written_numbers
 first_line key keys z values = refl
 
--- the text of the lines passed, and what the rest of the keys and values adds to it
-pub record Passed (keys : List ℕ) (values : List ℤ) (from i : ℕ) : Type 0 where
-  pub done : List ℕ
-  pub within : from ≤ length keys
-  pub whole : written_numbers (keys_of keys) values ≡ done ++ written_numbers (keys_of (drop from keys)) (drop i values)
-
-abbrev pub passed_none : (keys : List ℕ) (values : List ℤ) → Passed keys values 0 0
-passed_none keys values = record { done = []; within = omega arith; whole = refl }
-
-module _ {keys : List ℕ} {values : List ℤ} {from i : ℕ} (passed : Passed keys values from i) where
-  -- no value is left
-  pub passed_values : length values ≤ i → written_numbers (keys_of keys) values ≡ passed.done
-  passed_values h = passed.whole ∙ rw (drop_of_length-le values {i = i} h, no_values (keys_of (drop from keys))) (append-nil passed.done)
-
-  pub passed_within : length passed.done ≤ length (written_numbers (keys_of keys) values)
-  passed_within = omega (arith, ap length passed.whole, length-append passed.done (written_numbers (keys_of (drop from keys)) (drop i values)))
-
-  module _ (end : ℕ) (ends : end ≡ from + piece_length 61 (drop from keys)) where
-    -- no key is left
-    pub passed_keys : end ≡ from → written_numbers (keys_of keys) values ≡ passed.done
-    unfolding written_numbers
-    passed_keys over = passed.whole ∙ rw (piece_none 61 keys from end ends over) (append-nil passed.done)
-
-    pub passed_end : end ≤ length keys
-    passed_end = piece_fits 61 keys from end ends passed.within
-
-    -- one line more
-    pub passed_line : (end ≡ from → ⊥) → i < length values → Passed keys values end (i + 1)
-    unfolding written_numbers
-    passed_line some more =
-        record {
-          done = passed.done ++ written_line (part keys from end) (get_or values i (pos 0));
-          within = passed_end;
-          whole = passed.whole ∙ rw (piece_next 61 keys from end ends some, drop-cons values i (pos 0) more, add-one i) (simp append_assoc);
-        }
-
-    pub passed_line_done : (some : end ≡ from → ⊥) (more : i < length values) → (passed_line some more).done ≡ passed.done ++ written_line (part keys from end) (get_or values i (pos 0))
-    unfolding passed_line
-    passed_line_done some more = refl
-
-    pub passed_line_length : (some : end ≡ from → ⊥) (more : i < length values) → length (passed_line some more).done ≡ length passed.done + (end - from + length (written_number (get_or values i (pos 0))) + 1)
-    unfolding passed_line
-    passed_line_length some more =
-        let key : List ℕ = part keys from end in
-        let z : ℤ = get_or values i (pos 0) in
-        omega (arith, length-append passed.done (written_line key z), line_length key z, length-take-le (end - from) (drop from keys) (omega (arith, length-drop from keys, passed_end)))
-
 -- ---- what writing gives
 
-pub text_short : (text buffer : List ℕ) (at : ℕ) → length buffer < at + length text → TextWritten text buffer at buffer written.Short
+pub text_short : (text buffer : List ℕ) (at : ℕ) → length buffer < at + length text → TextWritten text buffer at buffer None
 text_short text buffer at h = let e = lt-leb (at + length text) (length buffer) h in record { ends = rw e; bytes = rw e }
 
-pub text_stands : {text buffer : List ℕ} {at : ℕ} {after : List ℕ} {next : ℕ} → TextLaid text buffer at after next → at + length text ≤ length buffer → TextWritten text buffer at after (written.Ended next)
+pub text_stands : {text buffer : List ℕ} {at : ℕ} {after : List ℕ} {next : ℕ} → TextLaid text buffer at after next → at + length text ≤ length buffer → TextWritten text buffer at after (Some next)
 text_stands {text} {buffer} {at} laid room = let e = le-leb (at + length text) (length buffer) room in record { ends = rw (e, laid.ends); bytes = rw e laid.bytes }
 
 -- what stands in a buffer that has room for the text
-pub written_bytes : {text buffer : List ℕ} {at : ℕ} {after : List ℕ} {ended : Written} → TextWritten text buffer at after ended → at + length text ≤ length buffer → after ≡ laid_at buffer at text
+pub written_bytes : {text buffer : List ℕ} {at : ℕ} {after : List ℕ} {ended : Option ℕ} → TextWritten text buffer at after ended → at + length text ≤ length buffer → after ≡ laid_at buffer at text
 written_bytes {text} {buffer} {at} done room = done.bytes ∙ rw (le-leb (at + length text) (length buffer) room)
 
 -- bytes after the text stay, whether it was written or not: a program that lays one byte more does not meet its contract
-pub bytes_after_stay : {text buffer : List ℕ} {at : ℕ} {after : List ℕ} {ended : Written} → TextWritten text buffer at after ended → (k : ℕ) → drop (at + length text + k) after ≡ drop (at + length text + k) buffer
+pub bytes_after_stay : {text buffer : List ℕ} {at : ℕ} {after : List ℕ} {ended : Option ℕ} → TextWritten text buffer at after ended → (k : ℕ) → drop (at + length text + k) after ≡ drop (at + length text + k) buffer
 bytes_after_stay {text} {buffer} {at} {after} done k = go (leb (at + length text) (length buffer)) refl done.bytes
   where
     go : (b : Bool) → leb (at + length text) (length buffer) ≡ b → after ≡ cond b (laid_at buffer at text) buffer → drop (at + length text + k) after ≡ drop (at + length text + k) buffer
@@ -227,7 +175,7 @@ bytes_after_stay {text} {buffer} {at} {after} done k = go (leb (at + length text
     go false e is = rw is
 
 -- and those before it
-pub bytes_before_stay : {text buffer : List ℕ} {at : ℕ} {after : List ℕ} {ended : Written} → TextWritten text buffer at after ended → take at after ≡ take at buffer
+pub bytes_before_stay : {text buffer : List ℕ} {at : ℕ} {after : List ℕ} {ended : Option ℕ} → TextWritten text buffer at after ended → take at after ≡ take at buffer
 bytes_before_stay {text} {buffer} {at} {after} done = go (leb (at + length text) (length buffer)) refl done.bytes
   where
     go : (b : Bool) → leb (at + length text) (length buffer) ≡ b → after ≡ cond b (laid_at buffer at text) buffer → take at after ≡ take at buffer

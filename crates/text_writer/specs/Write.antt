@@ -1,10 +1,9 @@
 -- Writing: the text of values by a schema of numbers, and a text laid into a lent buffer. Bytes after it stay; a buffer that is too short stays whole (14).
-use Rattle.std.specs.Prelude.{ℕ, ◌+◌, ◌≡◌, List, [], ◌∷◌, ◌++◌, leb, ℤ, length, take, drop, cond}
+use Rattle.std.specs.Prelude.{ℕ, ◌+◌, ◌≡◌, List, [], ◌∷◌, ◌++◌, leb, ℤ, length, take, drop, cond, Option, Some, None}
 use Rattle.text_number.specs.Number.{written_number}
-use Rattle.text_number.specs.Marked.{Marked, written_marked}
+use Rattle.text_number.specs.Marked.{written_marked}
+use Rattle.text_number.specs.declared.marked.Marked.{Marked}
 use Rattle.text_schema.specs.Schema.{keys_of}
-use Rattle.text_writer.specs.declared.Written.{Written}
-use Rattle.text_writer.specs.declared.Written.TheVariants as written
 
 -- a line: its key with `=`, the number, byte 10
 abbrev pub written_line : List ℕ → ℤ → List ℕ
@@ -34,10 +33,10 @@ pub record TextLaid (text buffer : List ℕ) (at : ℕ) (after : List ℕ) (next
   pub ends : next ≡ at + length text
   pub bytes : after ≡ laid_at buffer at text
 
--- what writing a text at a position of a buffer gives: all of it, or nothing where the buffer is too short
-pub record TextWritten (text buffer : List ℕ) (at : ℕ) (after : List ℕ) (ended : Written) : Type 0 where
-  pub ends : ended ≡ cond (leb (at + length text) (length buffer)) (written.Ended (at + length text)) written.Short
+-- what writing a text at a position of a buffer gives: all of it and where it ends, or nothing where the buffer is too short (14)
+pub record TextWritten (text buffer : List ℕ) (at : ℕ) (after : List ℕ) (ended : Option ℕ) : Type 0 where
+  pub ends : ended ≡ cond (leb (at + length text) (length buffer)) (Some (at + length text)) None
   pub bytes : after ≡ cond (leb (at + length text) (length buffer)) (laid_at buffer at text) buffer
 
-abbrev pub LinesWritten : List ℕ → List ℤ → List ℕ → ℕ → List ℕ → Written → Type 0
+abbrev pub LinesWritten : List ℕ → List ℤ → List ℕ → ℕ → List ℕ → Option ℕ → Type 0
 LinesWritten keys values = TextWritten (written_numbers (keys_of keys) values)

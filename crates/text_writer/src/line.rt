@@ -2,7 +2,7 @@
 ghost use Rattle.std.specs.Prelude.{[], ◌∷◌, ◌++◌, ◌≤◌, ◌+◌, length};
 ghost use Rattle.text_writer.specs.Write.{TextLaid, TextWritten};
 
-use crate::{Written, put_bytes};
+use crate::put_bytes;
 
 // The line, which the buffer has room for; where the next line starts.
 pub(crate) fn put_text_line(buffer: &mut [u8], at: usize, key: &[u8], text: &[u8]) -> usize
@@ -16,19 +16,12 @@ pub(crate) fn put_text_line(buffer: &mut [u8], at: usize, key: &[u8], text: &[u8
 }
 
 // The line at a position of a lent buffer. Its length need not fit a number, so what is left of the room is compared.
-pub fn write_text_line(buffer: &mut [u8], at: usize, key: &[u8], text: &[u8]) -> Written
+pub fn write_text_line(buffer: &mut [u8], at: usize, key: &[u8], text: &[u8]) -> Option<usize>
     ensures { TextWritten (key.now ++ (text.now ++ (10 ∷ []))) buffer.old at buffer.new result }
 {
-    if buffer.len() < at {
-        return Written::Short;
+    let room = buffer.len().checked_sub(at)?.checked_sub(key.len())?;
+    if room <= text.len() {
+        return None;
     }
-    let room = buffer.len() - at;
-    if room < key.len() {
-        return Written::Short;
-    }
-    if room - key.len() <= text.len() {
-        return Written::Short;
-    }
-    let next = put_text_line(buffer, at, key, text);
-    Written::Ended { next }
+    Some(put_text_line(buffer, at, key, text))
 }

@@ -1,70 +1,69 @@
 // Lines of numbers of which some are marked suspect: `?` (63) stands after such a number.
-ghost use Rattle.std.specs.Prelude.{◌≡◌, ◌≤◌, ◌+◌, leb, length};
-ghost use Rattle.text_number.specs.Marked.{marked_by};
+ghost use Rattle.std.specs.Prelude.{◌≡◌, ◌≤◌, ◌<◌, ◌+◌, [], ◌∷◌, ◌++◌, length};
+ghost use Rattle.text_line.specs.Piece.{piece_length};
+ghost use Rattle.text_number.specs.Marked.{written_marked, marked_by};
 ghost use Rattle.text_schema.specs.Schema.{keys_of};
-ghost use Rattle.text_writer.specs.Write.{written_marked_line, written_marked_lines, TextLaid, TextWritten};
+ghost use Rattle.text_writer.specs.internal.Keys.{first_key, WholeKeys};
+ghost use Rattle.text_writer.specs.Write.{written_marked_lines, TextLaid, TextWritten};
 
-use crate::{Written, number_length, put_bytes, put_line};
+use crate::room::lines_fit;
+use crate::{put_bytes, put_value};
 use integer::magnitude;
-use text_line::piece::piece_end;
 
-// A line: its key, the number, the mark where it has one, byte 10; where the next line starts. A mark takes the place of the byte 10 of the line without it.
-fn put_marked_line(buffer: &mut [u8], at: usize, key: &[u8], z: i64, suspect: bool) -> usize
-    requires { at + length (written_marked_line key.now (record { number = z; suspect = suspect })) ≤ length buffer.old }
-    ensures { TextLaid (written_marked_line key.now (record { number = z; suspect = suspect })) buffer.old at buffer.new result }
+// The keys up to the last `=`: what follows it is no key.
+#[tactic(auto, using(crate::proofs::WholeKeys::whole_before, crate::proofs::WholeKeys::keys_before))]
+fn whole_keys<'a>(keys: &'a [u8]) -> &'a [u8]
+    ensures { (keys_of result.now ≡ keys_of keys.now) × WholeKeys result.now }
 {
-    let next = put_line(buffer, at, key, z < 0, magnitude(z));
+    for last in (0..keys.len()).rev() {
+        if keys[last] == 61 {
+            return &keys[..=last];
+        }
+    }
+    &keys[..0]
+}
+
+// The first of some keys, whose end is found on the way; where the number behind it starts.
+fn put_key(buffer: &mut [u8], at: usize, keys: &[u8]) -> usize
+    requires { (0 < piece_length 61 keys.now) × (at + piece_length 61 keys.now ≤ length buffer.old) }
+    ensures { TextLaid (first_key keys.now) buffer.old at buffer.new result }
+{
+    for (i, byte) in keys.iter().enumerate() {
+        buffer[at + i] = *byte;
+        if *byte == 61 {
+            return at + i + 1;
+        }
+    }
+    // not reached: a key is there
+    at
+}
+
+// A number, the mark where it has one, byte 10; where the next line starts. A mark takes the place of the byte 10 of the number without it.
+fn put_marked_value(buffer: &mut [u8], at: usize, z: i64, suspect: bool) -> usize
+    requires { at + length (written_marked (record { number = z; suspect = suspect }) ++ (10 ∷ [])) ≤ length buffer.old }
+    ensures { TextLaid (written_marked (record { number = z; suspect = suspect }) ++ (10 ∷ [])) buffer.old at buffer.new result }
+{
+    let next = put_value(buffer, at, z < 0, magnitude(z));
     if suspect {
         return put_bytes(buffer, next - 1, b"?\n");
     }
     next
 }
 
-// Whether the text of the lines is no longer than the room for it.
-fn marked_lines_fit(keys: &[u8], values: &[i64], mut marks: u64, mut room: usize) -> bool
-    ensures { result ≡ leb (length (written_marked_lines (keys_of keys.now) (marked_by marks values.now))) room }
-{
-    let mut from: usize = 0;
-    let mut i: usize = 0;
-    while i < values.len() {
-        let end = piece_end(keys, from, 61);
-        if end == from {
-            return true;
-        }
-        let line = end - from + number_length(values[i]) + (marks % 2) as usize + 1;
-        if room < line {
-            return false;
-        }
-        room -= line;
-        from = end;
-        marks = marks / 2;
-        i += 1;
-    }
-    true
-}
-
 // The lines, which the buffer has room for; where the next line starts.
-fn put_marked_lines(
-    buffer: &mut [u8],
-    mut at: usize,
-    keys: &[u8],
-    values: &[i64],
-    mut marks: u64,
-) -> usize
-    requires { at + length (written_marked_lines (keys_of keys.now) (marked_by marks values.now)) ≤ length buffer.old }
+fn put_lines(buffer: &mut [u8], mut at: usize, keys: &[u8], values: &[i64], mut marks: u64) -> usize
+    requires { WholeKeys keys.now × (at + length (written_marked_lines (keys_of keys.now) (marked_by marks values.now)) ≤ length buffer.old) }
     ensures { TextLaid (written_marked_lines (keys_of keys.now) (marked_by marks values.now)) buffer.old at buffer.new result }
 {
     let mut from: usize = 0;
-    let mut i: usize = 0;
-    while i < values.len() {
-        let end = piece_end(keys, from, 61);
-        if end == from {
+    for z in values {
+        if keys.len() <= from {
             return at;
         }
-        at = put_marked_line(buffer, at, &keys[from..end], values[i], marks % 2 == 1);
-        from = end;
+        let start = put_key(buffer, at, &keys[from..]);
+        from += start - at;
+        at = put_marked_value(buffer, start, *z, marks % 2 == 1);
         marks = marks / 2;
-        i += 1;
     }
     at
 }
@@ -77,15 +76,12 @@ pub fn write_marked_lines(
     keys: &[u8],
     values: &[i64],
     marks: u64,
-) -> Written
+) -> Option<usize>
     ensures { TextWritten (written_marked_lines (keys_of keys.now) (marked_by marks values.now)) buffer.old at buffer.new result }
 {
-    if buffer.len() < at {
-        return Written::Short;
+    let room = buffer.len().checked_sub(at)?;
+    if !lines_fit(keys, values, marks, room) {
+        return None;
     }
-    if marked_lines_fit(keys, values, marks, buffer.len() - at) {
-        let next = put_marked_lines(buffer, at, keys, values, marks);
-        return Written::Ended { next };
-    }
-    Written::Short
+    Some(put_lines(buffer, at, whole_keys(keys), values, marks))
 }

@@ -4,7 +4,7 @@ ghost use Rattle.text_writer.specs.Output.{refusal_lines};
 ghost use Rattle.text_writer.specs.Write.{TextLaid, TextWritten};
 
 use crate::line::put_text_line;
-use crate::{Written, digit_count, put_line};
+use crate::{digit_count, put_line};
 use text_refusal::refusal::Refusal;
 
 // The lines of a refusal at the start of a buffer that has room for them; where the next line starts.
@@ -18,14 +18,13 @@ fn put_refusal(buffer: &mut [u8], number: u64, line: u64, name: &[u8]) -> usize
 }
 
 // The lines of a refusal at the start of a lent buffer, with the name of the refused text.
-pub fn write_refusal(buffer: &mut [u8], found: Refusal, name: &[u8]) -> Written
+pub fn write_refusal(buffer: &mut [u8], found: Refusal, name: &[u8]) -> Option<usize>
     ensures { TextWritten (refusal_lines found name.now) buffer.old 0 buffer.new result }
 {
     let line = found.line as u64;
     let length = 21 + digit_count(found.number) + digit_count(line) + name.len();
     if buffer.len() < length {
-        return Written::Short;
+        return None;
     }
-    let next = put_refusal(buffer, found.number, line, name);
-    Written::Ended { next }
+    Some(put_refusal(buffer, found.number, line, name))
 }

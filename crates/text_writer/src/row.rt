@@ -3,7 +3,7 @@ ghost use Rattle.std.specs.Prelude.{◌≡◌, ◌≤◌, ◌+◌, ltb, length};
 ghost use Rattle.text_writer.specs.Row.{spaces, number_cell, written_cells, written_row};
 ghost use Rattle.text_writer.specs.Write.{TextLaid, TextWritten};
 
-use crate::{Written, put_bytes, put_number};
+use crate::{put_bytes, put_number};
 use integer::magnitude;
 
 // So many spaces; where the next byte stands.
@@ -11,12 +11,9 @@ fn put_spaces(buffer: &mut [u8], at: usize, count: usize) -> usize
     requires { at + count ≤ length buffer.old }
     ensures { TextLaid (spaces count) buffer.old at buffer.new result }
 {
-    let mut i: usize = 0;
-    while i < count {
-        buffer[at + i] = 32;
-        i += 1;
-    }
-    at + i
+    let end = at + count;
+    buffer[at..end].fill(32);
+    end
 }
 
 // A space and a number right-aligned in a width; where the next byte stands.
@@ -35,17 +32,11 @@ fn put_cell(buffer: &mut [u8], at: usize, width: usize, z: i64) -> usize
 fn cells_fit(widths: &[usize], values: &[i64], mut room: usize) -> bool
     ensures { result ≡ ltb (length (written_cells widths.now values.now)) room }
 {
-    let mut i: usize = 0;
-    while i < values.len() {
-        if widths.len() <= i {
-            return 0 < room;
-        }
-        let width = widths[i];
-        if room <= width {
+    for (width, _) in widths.iter().zip(values) {
+        if room <= *width {
             return false;
         }
-        room -= width + 1;
-        i += 1;
+        room -= *width + 1;
     }
     0 < room
 }
@@ -55,13 +46,8 @@ fn put_cells(buffer: &mut [u8], mut at: usize, widths: &[usize], values: &[i64])
     requires { at + length (written_cells widths.now values.now) ≤ length buffer.old }
     ensures { TextLaid (written_cells widths.now values.now) buffer.old at buffer.new result }
 {
-    let mut i: usize = 0;
-    while i < values.len() {
-        if widths.len() <= i {
-            return at;
-        }
-        at = put_cell(buffer, at, widths[i], values[i]);
-        i += 1;
+    for (width, z) in widths.iter().zip(values) {
+        at = put_cell(buffer, at, *width, *z);
     }
     at
 }
@@ -73,20 +59,15 @@ pub fn write_row(
     name: &[u8],
     widths: &[usize],
     values: &[i64],
-) -> Written
+) -> Option<usize>
     ensures { TextWritten (written_row name.now widths.now values.now) buffer.old at buffer.new result }
 {
-    if buffer.len() < at {
-        return Written::Short;
+    let room = buffer.len().checked_sub(at)?.checked_sub(name.len())?;
+    if !cells_fit(widths, values, room) {
+        return None;
     }
-    if buffer.len() - at < name.len() {
-        return Written::Short;
-    }
-    if cells_fit(widths, values, buffer.len() - at - name.len()) {
-        let start = put_bytes(buffer, at, name);
-        let end = put_cells(buffer, start, widths, values);
-        buffer[end] = 10;
-        return Written::Ended { next: end + 1 };
-    }
-    Written::Short
+    let start = put_bytes(buffer, at, name);
+    let end = put_cells(buffer, start, widths, values);
+    buffer[end] = 10;
+    Some(end + 1)
 }

@@ -49,17 +49,17 @@ many_bound (distance ∷ above) mean spread (suc k) = many_bound above mean spre
 small : {n : ℕ} → n ≤ 1000000000 → SFits w64 (pos n)
 small h = abs_fits (omega arith)
 
-pub overflow_cast-first : goal.overflow_cast-first
-overflow_cast-first c = small (rw c.offline_probabilities-p.ensures (many_bound _ _ _ 0))
+pub overflow_cast-result : goal.overflow_cast-result
+overflow_cast-result c = small (rw c.offline_probabilities.ensures (many_bound _ _ _ 0))
 
-pub overflow_cast-second : goal.overflow_cast-second
-overflow_cast-second c = small (rw c.offline_probabilities-p.ensures (many_bound _ _ _ 1))
+pub overflow_cast-result-2 : goal.overflow_cast-result-2
+overflow_cast-result-2 c = small (rw c.offline_probabilities.ensures (many_bound _ _ _ 1))
 
-pub overflow_cast-third : goal.overflow_cast-third
-overflow_cast-third c = small (rw c.offline_probabilities-p.ensures (many_bound _ _ _ 2))
+pub overflow_cast-result-3 : goal.overflow_cast-result-3
+overflow_cast-result-3 c = small (rw c.offline_probabilities.ensures (many_bound _ _ _ 2))
 
-pub overflow_cast-fourth : goal.overflow_cast-fourth
-overflow_cast-fourth c = small (rw c.offline_probabilities-p.ensures (many_bound _ _ _ 3))
+pub overflow_cast-result-4 : goal.overflow_cast-result-4
+overflow_cast-result-4 c = small (rw c.offline_probabilities.ensures (many_bound _ _ _ 3))
 
 -- the cells one by one
 cells :
@@ -71,8 +71,8 @@ cells a b c d e f g = rw (a, b, c, d, e, f, g)
 pub returns : goal.returns
 returns c =
     let pair = c.args.pair in
-    let values = c.offline_probabilities-p.result in
-    let told = c.offline_probabilities-p.ensures in
+    let values = c.offline_probabilities.result in
+    let told = c.offline_probabilities.ensures in
     let are = four pair c.requires told c.magnitude-spread.ensures in
     cells
     (omega (arith, ints, block_of_group c.args.group))

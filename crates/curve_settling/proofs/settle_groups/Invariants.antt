@@ -1,5 +1,5 @@
 -- The groups left decide, and the pairs of the groups passed stand.
-use Rattle.std.proofs.Common.{◌-◌, ◌≡◌, ◌≤◌, length, take, drop, map}
+use Rattle.std.proofs.Common.{◌≡◌, ◌≤◌, length, take, drop, map}
 use Rattle.curve_record.specs.Record.{all_groups}
 use Rattle.curve_settling.specs.Settle.{pair_of, settled_groups}
 use Rattle.curve_settling.proofs.settle_groups.Given as goal
@@ -11,6 +11,3 @@ invariant-loop-i l = record {
   left : settled_groups 0 (all_groups l.fn.history) ≡ settled_groups l.i (drop l.i (all_groups l.fn.history));
   made : take l.i l.pairs ≡ take l.i (map pair_of (all_groups l.fn.history));
 }
-
-abbrev pub decreases-loop-i : goal.decreases-loop-i
-decreases-loop-i l = 24 - l.i

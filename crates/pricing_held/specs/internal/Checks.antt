@@ -4,6 +4,7 @@ use Rattle.integer.specs.Range.{within}
 use Rattle.text_refusal.specs.Answer.{refusal}
 use Rattle.text_refusal.specs.declared.answer.Answer.{Answer}
 use Rattle.text_refusal.specs.declared.answer.Answer.TheVariants as answer
+use Rattle.text_id_table.specs.Ids.{id_at}
 use Rattle.text_id_table.specs.internal.Kept.{IdTable, RoomForOne}
 use Rattle.text_schema.specs.Schema.{value}
 use Rattle.text_schema.specs.Checked.{first_refused}
@@ -25,9 +26,17 @@ numbers_checked line (low ∷ lows) (high ∷ highs) (z ∷ values) = cond (with
 abbrev pub flag_checked : ℕ → Bool → ℤ → Answer
 flag_checked line marked z = cond marked (refusal 6 line) (cond (within (pos 0) (pos 1) z) answer.Accepted (refusal 7 line))
 
--- the numbers of a row as a row with no id
+-- the numbers of a row as a row with an id, and with none
+abbrev pub row_in : List ℕ → List ℤ → Row
+row_in id values = record { id = id; kind = place_of (value values 0); status = place_of (value values 1); numbers = take 6 (drop 2 values); marks = nat_abs (value values 8) }
+
 abbrev pub row_of : List ℤ → Row
-row_of values = record { id = []; kind = place_of (value values 0); status = place_of (value values 1); numbers = take 6 (drop 2 values); marks = nat_abs (value values 8) }
+row_of values = row_in [] values
+
+-- the rows from one on, each by its numbers; its id stands in its 32 bytes
+unfoldable pub rows_in : List ℕ → ℕ → List (List ℤ) → List Row
+rows_in ids i [] = []
+rows_in ids i (values ∷ rows) = row_in (id_at 0 ids (32 * i)) values ∷ rows_in ids (suc i) rows
 
 -- the kind of a generator by its place in the list of words, and its flag as far as a verdict hangs on it
 abbrev pub kind_of : ℕ → Kind
@@ -43,18 +52,13 @@ flag_of z = cond (is_one z) (pos 1) (pos 0)
 abbrev pub resource_in : List ℤ → Resource
 resource_in values = resource_of_kind (place_of (value values 0)) (row_of values)
 
-unfoldable pub resources_from : List ℤ → ℕ → ℕ → List Resource
-resources_from numbers i zero = []
-resources_from numbers i (suc n) = resource_in (drop (9 * i) numbers) ∷ resources_from numbers (suc i) n
-
 -- how many lines a row has, by its kind
 abbrev pub line_count : ℕ → ℕ
 line_count kind = cond (ltb kind 4) 9 6
 
--- the row stands in both slices, its line is small, and the slot of its id is one of the table's
-pub record RowRoom (ids : List ℕ) (numbers : List ℤ) (i line : ℕ) (starts : List ℕ) : Type 0 where
+-- the row's id stands among the ids, its line is small, and the slot of its id is one of the table's
+pub record RowRoom (ids : List ℕ) (i line : ℕ) (starts : List ℕ) : Type 0 where
   pub id_row : 32 * i + 32 ≤ length ids
-  pub number_row : 9 * i + 9 ≤ length numbers
   pub small : line ≤ 70000
   pub above : List (List ℕ)
   pub table : IdTable 0 ids starts above

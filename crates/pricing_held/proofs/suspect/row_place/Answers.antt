@@ -1,3 +1,4 @@
+use native.Mathlib.Omega.{arith}
 use borrow.Author.Rules.{rules}
 use Prim.Native.Nat.{ℕ, ◌%◌}
 use mathlib.Core.Path.{◌≡◌, ap}
@@ -17,4 +18,4 @@ returns-then-kind-lt4 c =
     let status : c.status_of.result ≡ status_of (place_of (value c.args.values.now 1)) = search rules in
     let flag : to_z w32 (of_z w32 c.flag_of.result) ≡ flag_of (value c.args.values.now 7) = search rules in
     let marks : c.magnitude-marks.result ≡ nat_abs (value c.args.values.now 8) = search rules in
-    generator_row c.args.values.now c.requires kind c.if-kind-lt4.true _ c.kind_of.ensures status flag (ap (λ (n : ℕ). n % 64) marks) c.suspect_place.ensures
+    generator_row c.args.values.now (omega arith) kind c.if-kind-lt4.true _ c.kind_of.ensures status flag (ap (λ (n : ℕ). n % 64) marks) c.suspect_place.ensures

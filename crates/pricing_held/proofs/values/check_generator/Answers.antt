@@ -13,11 +13,11 @@ use Rattle.pricing_held.proofs.values.check_generator.Goals as goal
 pub returns-in_default : goal.returns-in_default
 returns-in_default c =
     let status : c.place_of.result ≡ place_of (value c.args.values.now 1) = search rules in
-    generator_refused c.args.values.now c.args.line c.requires.0 (omega arith) c.check_numbers-found.ensures c.in_default.is
+    generator_refused c.args.values.now c.args.line (omega arith) (omega arith) c.check_numbers-found.ensures c.in_default.is
 
 pub returns : goal.returns
 returns c =
     let status : c.place_of.result ≡ place_of (value c.args.values.now 1) = search rules in
     let marks : c.magnitude-marks.result ≡ nat_abs (value c.args.values.now 8) = search rules in
     let flag : c.check_flag.result ≡ flag_checked (c.args.line + 6) (first_marked (c.magnitude-marks.result / 32)) (value c.args.values.now 7) = search rules in
-    generator_checked c.args.values.now c.args.line c.requires.0 (omega arith) (sym c.in-Accepted.is ∙ c.check_numbers-found.ensures) (ap (λ (n : ℕ). first_marked (n / 32)) marks) flag
+    generator_checked c.args.values.now c.args.line (omega arith) (omega arith) (sym c.in-Accepted.is ∙ c.check_numbers-found.ensures) (ap (λ (n : ℕ). first_marked (n / 32)) marks) flag

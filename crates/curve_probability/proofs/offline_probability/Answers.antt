@@ -1,0 +1,10 @@
+use Rattle.std.proofs.Common.{FitsSigned, w64, rules}
+use mir.Facts.{to_z-of_z}
+use Rattle.curve_probability.proofs.Distance.{offline_is}
+use Rattle.curve_probability.proofs.offline_probability.Goals as goal
+
+pub returns : goal.returns
+returns c =
+    let fits : FitsSigned w64 c.offline_numerator.result = search rules in
+    rw (c.left_of_one.ensures, c.distribution-value.ensures, to_z-of_z fits, c.offline_numerator.ensures, c.distance_above-distance.ensures, to_z-of_z c.ranges.reserve, to_z-of_z c.ranges.floor, to_z-of_z c.ranges.mean)
+    (offline_is c.args.reserve c.args.floor c.args.mean c.args.spread c.ranges.mean c.ranges.spread)

@@ -1,0 +1,2 @@
+-- Internals: what the contracts of private functions say. No definition to believe, and no statement, rests on these.
+pub mod Distance
