@@ -1,15 +1,14 @@
--- Laws on words: a value against one word, one byte on and at the end; against the words of a list, one after the other; and a line that holds a word.
+-- Laws on words: a value against one word; against the words of a list, one after the other; and a line that holds a word.
 use Prim.Native.Nat.{ℕ, zero, suc, ◌+◌, ◌≤◌, ◌<◌}
 use native.Mathlib.Nat.{add-zero, zero-add}
-use native.Mathlib.Numerals.{add-one}
 use native.Mathlib.Omega.{arith}
-use mathlib.Core.Bool.{Bool, true, false, cond}
+use mathlib.Core.Bool.{Bool, true, false, ◌&&◌, cond}
 use mathlib.Core.List.{List, [], ◌∷◌}
 use mathlib.Core.Path.{◌≡◌, refl, sym, ap, ap₂, ◌∙◌}
 use lib.Dec.{eqb}
-use lib.ListN.{length, drop, get_or, drop_of_length-le}
-use lib.Seq.{drop-cons}
-use borrow.Author.Tests.{eq-eqb, ne_eqb, eqb-true}
+use lib.ListN.{length}
+use borrow.Author.Tests.{eq-eqb, eqb-true}
+use Rattle.std.specs.Cmp.Lexicographic.{pointwise}
 use Rattle.std.specs.Prelude.{Option, Some, None}
 use Rattle.text_line.specs.Judged.{good}
 use Rattle.text_line.specs.Line.{OneLine, value_at, value_fault}
@@ -47,30 +46,17 @@ same_other bytes others n = go (same_bytes bytes others) refl
 pub same_length : (bytes others : List ℕ) → (length bytes ≡ length others → ⊥) → false ≡ same_bytes bytes others
 same_length bytes others n = sym (same_other bytes others (λ e. n (ap length e)))
 
--- what is left to compare from a byte on
-pub record WordFrom (value word : List ℕ) (i : ℕ) : Type 0 where
-  pub within : i ≤ length value
-  pub long : length value ≡ length word
-  pub rest : same_bytes value word ≡ same_bytes (drop i value) (drop i word)
-
-module _ {value word : List ℕ} {i : ℕ} (from : WordFrom value word i) where
-  pub word_over : length value ≤ i → true ≡ same_bytes value word
-  unfolding same_bytes
-  word_over h = rw (from.rest, drop_of_length-le value {i = i} h, drop_of_length-le word {i = i} (omega (arith, from.long)))
-
-  pub word_other : i < length value → (get_or value i 0 ≡ get_or word i 0 → ⊥) → false ≡ same_bytes value word
-  unfolding same_bytes
-  word_other h n =
-      rw (from.rest, drop-cons value i 0 h, drop-cons word i 0 (omega (arith, from.long)), ne_eqb (get_or value i 0) (get_or word i 0) n)
-
-  pub word_more : i < length value → get_or value i 0 ≡ get_or word i 0 → WordFrom value word (i + 1)
-  unfolding same_bytes
-  word_more h e =
-      record {
-        within = omega arith;
-        long = from.long;
-        rest = rw (from.rest, add-one, drop-cons value i 0 h, drop-cons word i 0 (omega (arith, from.long)), eq-eqb (get_or value i 0) (get_or word i 0) e);
-      }
+-- as `==` compares them
+pub same_pointwise : (bytes others : List ℕ) → same_bytes bytes others ≡ pointwise eqb bytes others
+unfolding same_bytes
+same_pointwise [] [] = refl
+same_pointwise [] (other ∷ others) = refl
+same_pointwise (byte ∷ bytes) [] = refl
+same_pointwise (byte ∷ bytes) (other ∷ others) = rw (same_pointwise bytes others) (go (eqb byte other))
+  where
+    go : (t : Bool) → cond t (pointwise eqb bytes others) false ≡ (t && pointwise eqb bytes others)
+    go true = refl
+    go false = refl
 
 -- ---- the words of a list, one after the other
 
