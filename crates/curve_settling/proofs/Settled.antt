@@ -8,10 +8,10 @@ use borrow.Author.Tests.{lt-ltb, le-ltb, eq-eqb, ne_eqb}
 use lib.IntN.{ℤ, pos, nat_abs}
 use lib.ListN.{length, get_or, drop, length-map, drop_of_length-le}
 use lib.Seq.{drop-cons}
+use Rattle.std.specs.Prelude.{Ok}
 use Rattle.root.specs.Root.{root_of}
 use Rattle.curve_record.specs.declared.Group.{Group}
 use Rattle.curve_record.specs.declared.Record.{Record}
-use Rattle.text_refusal.specs.declared.answer.Answer.TheVariants as answer
 use Rattle.curve_set.specs.declared.Pair.{Pair}
 use Rattle.text_refusal.specs.Answer.{refusal}
 use Rattle.curve_set.specs.Curves.{voll_in_range, floor_in_range, refused_curves}
@@ -80,7 +80,7 @@ module _ (history : Record) (g : ℕ) (below : g < 24) (earlier : (k : ℕ) → 
   unfolding settled_groups
   groups_flat enough flat = earlier_pass ∙ rw (le-ltb (group_at history g).count 2 enough, eq-eqb (spread_of (group_at history g)) 0 flat)
 
-groups_accepted : (history : Record) → ((g : ℕ) → g < 24 → Faultless (group_at history g)) → settled_groups 0 (all_groups history) ≡ answer.Accepted
+groups_accepted : (history : Record) → ((g : ℕ) → g < 24 → Faultless (group_at history g)) → settled_groups 0 (all_groups history) ≡ Ok tt
 unfolding settled_groups
 groups_accepted history fine =
     let groups = all_groups history in
@@ -90,32 +90,32 @@ groups_accepted history fine =
 -- ---- settling
 
 module _ (history : Record) (voll floor : ℤ) where
-  pub settled_impossible : record_possible history ≡ false → settled history voll floor ≡ refused_curves (refusal 1 0)
+  pub settled_impossible : record_possible history ≡ false → settled history voll floor ≡ refused_curves 1 0
   unfolding settled
   settled_impossible e = rw e
 
   module _ (possible : record_possible history ≡ true) where
-    pub settled_voll : voll_in_range voll ≡ false → settled history voll floor ≡ refused_curves (refusal 7 0)
+    pub settled_voll : voll_in_range voll ≡ false → settled history voll floor ≡ refused_curves 7 0
     unfolding settled
     settled_voll e = rw (possible, e)
 
     module _ (voll_in : voll_in_range voll ≡ true) where
-      pub settled_floor : floor_in_range floor ≡ false → settled history voll floor ≡ refused_curves (refusal 7 0)
+      pub settled_floor : floor_in_range floor ≡ false → settled history voll floor ≡ refused_curves 7 0
       unfolding settled
       settled_floor e = rw (possible, voll_in, e)
 
       module _ (floor_in : floor_in_range floor ≡ true) where
         module _ (g : ℕ) (below : g < 24) (earlier : (k : ℕ) → k < g → Faultless (group_at history k)) where
-          pub settled_few : (group_at history g).count < 2 → settled history voll floor ≡ refused_curves (refusal 12 g)
+          pub settled_few : (group_at history g).count < 2 → settled history voll floor ≡ refused_curves 12 g
           unfolding settled
           settled_few few = rw (possible, voll_in, floor_in, groups_few history g below earlier few)
 
-          pub settled_flat : 2 ≤ (group_at history g).count → spread_of (group_at history g) ≡ 0 → settled history voll floor ≡ refused_curves (refusal 13 g)
+          pub settled_flat : 2 ≤ (group_at history g).count → spread_of (group_at history g) ≡ 0 → settled history voll floor ≡ refused_curves 13 g
           unfolding settled
           settled_flat enough flat = rw (possible, voll_in, floor_in, groups_flat history g below earlier enough flat)
 
         pub settled_accepted :
             ((g : ℕ) → g < 24 → Faultless (group_at history g)) →
-            settled history voll floor ≡ record { set = record { voll = voll; floor = floor; pairs = map pair_of (all_groups history) }; answer = answer.Accepted }
+            settled history voll floor ≡ Ok (record { voll = voll; floor = floor; pairs = map pair_of (all_groups history) })
         unfolding settled
         settled_accepted fine = rw (possible, voll_in, floor_in, groups_accepted history fine)

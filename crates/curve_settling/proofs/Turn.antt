@@ -37,13 +37,13 @@ step history i h =
 -- fewer than 2 hours
 pub too_few : (history : Record) (voll floor : ℤ) (i : ℕ) → i < 24
     → settled_groups 0 (all_groups history) ≡ settled_groups i (drop i (all_groups history)) → (held history i).count < 2
-    → refused_curves (refusal 12 i) ≡ settled_curves history voll floor
+    → refused_curves 12 i ≡ settled_curves history voll floor
 too_few history voll floor i h left few = rw (left ∙ step history i h, lt-ltb (held history i).count 2 few)
 
 -- a spread of 0
 pub flat : (history : Record) (voll floor : ℤ) (i : ℕ) → i < 24
     → settled_groups 0 (all_groups history) ≡ settled_groups i (drop i (all_groups history)) → 2 ≤ (held history i).count → spread_of (held history i) ≡ 0
-    → refused_curves (refusal 13 i) ≡ settled_curves history voll floor
+    → refused_curves 13 i ≡ settled_curves history voll floor
 flat history voll floor i h left enough none =
     rw (left ∙ step history i h, le-ltb (held history i).count 2 enough, eq-eqb (spread_of (held history i)) 0 none)
 

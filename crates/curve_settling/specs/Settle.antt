@@ -1,18 +1,16 @@
 -- Document 01, "History to curves": settling, which is document 01's term: from a record, given VOLL and X, the mean and the spread of each group as a curve
 -- set.
-use Rattle.std.specs.Prelude.{ℕ, suc, ◌/◌, ◌≤◌, ◌≡◌, List, [], ◌∷◌, map, ltb, eqb, ℤ, pos, nat_abs, cond}
+use Rattle.text_refusal.specs.declared.refusal.Refusal.{Refusal}
+use Rattle.std.specs.Prelude.{ℕ, suc, ◌/◌, ◌≤◌, ◌≡◌, List, [], ◌∷◌, map, ltb, eqb, ℤ, pos, nat_abs, cond, Result, Ok, Err}
 use Rattle.root.specs.Root.{root_of}
-use Rattle.text_refusal.specs.Answer.{refusal}
+use Rattle.text_refusal.specs.Answer.{Answer, refusal}
 use Rattle.curve_record.specs.Possible.{mean_of, squares_around, record_possible}
 use Rattle.curve_record.specs.Record.{all_groups}
 use Rattle.curve_set.specs.Curves.{voll_in_range, floor_in_range, refused_curves}
-use Rattle.text_refusal.specs.declared.answer.Answer.{Answer}
-use Rattle.text_refusal.specs.declared.answer.Answer.TheVariants as answer
 use Rattle.curve_record.specs.declared.Group.{Group}
 use Rattle.curve_record.specs.declared.Record.{Record}
 use Rattle.curve_set.specs.declared.Pair.{Pair}
 use Rattle.curve_set.specs.declared.CurveSet.{CurveSet}
-use Rattle.curve_set.specs.declared.Curves.{Curves}
 
 -- sigma is the largest whole number whose square is at most floor(V / count)
 unfoldable pub spread_of : Group → ℕ
@@ -28,29 +26,29 @@ Faultless g = (2 ≤ g.count) × (spread_of g ≡ 0 → ⊥)
 
 -- the first faulty group, `index` groups standing before: 12 for fewer than 2 hours, then 13 for sigma 0
 unfoldable pub settled_groups : ℕ → List Group → Answer
-settled_groups index [] = answer.Accepted
+settled_groups index [] = Ok tt
 settled_groups index (g ∷ groups) =
     cond (ltb g.count 2)
     (refusal 12 index)
     (cond (eqb (spread_of g) 0) (refusal 13 index) (settled_groups (suc index) groups))
 
--- refused curves are no curves
-abbrev pub settled_set : CurveSet → Answer → Curves
-settled_set curves answer.Accepted = record { set = curves; answer = answer.Accepted }
-settled_set curves (answer.Refused found) = refused_curves (answer.Refused found)
+-- the curves where no group is faulty
+abbrev pub settled_set : CurveSet → Answer → Result CurveSet Refusal
+settled_set curves (Ok accepted) = Ok curves
+settled_set curves (Err found) = Err found
 
 -- the curves of a record's groups
-abbrev pub settled_curves : Record → ℤ → ℤ → Curves
+abbrev pub settled_curves : Record → ℤ → ℤ → Result CurveSet Refusal
 settled_curves history voll floor =
     settled_set (record { voll = voll; floor = floor; pairs = map pair_of (all_groups history) }) (settled_groups 0 (all_groups history))
 
 -- 1, then 7 for VOLL, then 7 for X, then the groups in order
-unfoldable pub settled : Record → ℤ → ℤ → Curves
+unfoldable pub settled : Record → ℤ → ℤ → Result CurveSet Refusal
 settled history voll floor =
     cond (record_possible history)
     (cond (voll_in_range voll)
     (cond (floor_in_range floor)
     (settled_curves history voll floor)
-    (refused_curves (refusal 7 0)))
-    (refused_curves (refusal 7 0)))
-    (refused_curves (refusal 1 0))
+    (refused_curves 7 0))
+    (refused_curves 7 0))
+    (refused_curves 1 0)

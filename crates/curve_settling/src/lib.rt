@@ -8,10 +8,10 @@ ghost use Rattle.curve_settling.specs.Settle.{pair_of, settled_curves, settled};
 use curve_record::possible::record_possible;
 use curve_record::squares::squares_near;
 use curve_record::{Group, Record};
-use curve_set::{CurveSet, Curves, Pair, floor_in_range, refused_curves, voll_in_range};
+use curve_set::{CurveSet, Pair, floor_in_range, refused_curves, voll_in_range};
 use integer::floor_div;
 use root::root;
-use text_refusal::answer::Answer;
+use text_refusal::refusal::Refusal;
 
 // The mean and the spread of a group that has hours.
 fn pair_of(g: Group) -> Pair
@@ -31,7 +31,7 @@ fn pair_of(g: Group) -> Pair
 
 // The curves of a record's groups, or the first faulty group: 12 for fewer than 2 hours, then 13 for a spread of 0.
 #[tactic(auto, using(crate::proofs::Turn::too_few))]
-fn settle_groups(history: Record, voll: i64, floor: i64) -> Curves
+fn settle_groups(history: Record, voll: i64, floor: i64) -> Result<CurveSet, Refusal>
     requires { record_possible history ≡ true }
     ensures { result ≡ settled_curves history voll floor }
 {
@@ -46,15 +46,12 @@ fn settle_groups(history: Record, voll: i64, floor: i64) -> Curves
         }
         pairs[i] = pair;
     }
-    Curves {
-        set: CurveSet { voll, floor, pairs },
-        answer: Answer::Accepted,
-    }
+    Ok(CurveSet { voll, floor, pairs })
 }
 
 // The curves of a record, with VOLL in cents per MWh and the minimum contingency level X in kW.
 #[tactic(auto, unfolding(crate::specs::Settle::settled))]
-pub fn settle(history: Record, voll: i64, floor: i64) -> Curves
+pub fn settle(history: Record, voll: i64, floor: i64) -> Result<CurveSet, Refusal>
     ensures { result ≡ settled history voll floor }
 {
     if !record_possible(history) {

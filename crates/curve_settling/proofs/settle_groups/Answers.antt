@@ -1,9 +1,9 @@
+use Rattle.std.specs.Prelude.{Ok}
 use Rattle.std.proofs.Common.{◌≡◌, ◌≤◌, arith, sym, ap, ◌∙◌, length, map, to_z-of_z}
 use lib.ListN.{length-map, length-set, drop_of_length-le}
 use lib.Seq.{take_all}
 use mir.Syntax.{w64}
 use mir.Val.{of_z}
-use Rattle.text_refusal.specs.declared.answer.Answer.TheVariants as answer
 use Rattle.curve_record.specs.Record.{all_groups}
 use Rattle.curve_record.proofs.RecordGroups.{group_held, all_groups-length}
 use Rattle.curve_record.proofs.PossibleGroups.{possible_at}
@@ -49,5 +49,5 @@ returns c =
     let short = turns_over c.loop-i-test.false loop.invariant.long in
     let mapped : length (map pair_of groups) ≤ loop.i = rw (length-map groups pair_of) last in
     let pairs : loop.pairs ≡ map pair_of groups = sym (take_all loop.i loop.pairs short) ∙ loop.invariant.made ∙ take_all loop.i (map pair_of groups) mapped in
-    let accepted : settled_groups 0 groups ≡ answer.Accepted = loop.invariant.left ∙ rw (drop_of_length-le groups last) in
+    let accepted : settled_groups 0 groups ≡ Ok tt = loop.invariant.left ∙ rw (drop_of_length-le groups last) in
     rw (accepted, to_z-of_z c.ranges.voll, to_z-of_z c.ranges.floor, pairs)
