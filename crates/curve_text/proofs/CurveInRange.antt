@@ -5,9 +5,9 @@ use mathlib.Core.Bool.{true}
 use mathlib.Core.List.{List, ◌∷◌}
 use mathlib.Core.Path.{◌≡◌, refl}
 use lib.IntN.{ℤ}
+use Rattle.std.specs.Prelude.{Ok}
 use Rattle.text_refusal.specs.Bytes.{bytes}
 use Rattle.text_line.specs.Field.{Field, LineAnswer, got, refused, field_at}
-use Rattle.text_line.specs.declared.Lines.TheVariants as lines
 use Rattle.text_line.proofs.FieldTexts.{field_read}
 use Rattle.text_number.proofs.Fields.{number_between}
 use Rattle.text_schema.specs.Schema.{and_then, read_fields, repeated}
@@ -29,16 +29,16 @@ line_in_range key range text at {z} e =
 -- what holds of the first value and the rest, wherever the first line was read, holds of the values of all lines
 by_first :
     (P : List ℤ → Type 0) (field : Field ℤ) (fields : List (Field ℤ)) (text : List ℕ) (at next : ℕ) →
-    ((z : ℤ) (mid : ℕ) → field_at field text at ≡ got z mid → (read_fields fields text mid).end ≡ lines.Read next → P (z ∷ (read_fields fields text mid).values)) →
-    (read_fields (field ∷ fields) text at).end ≡ lines.Read next → P (read_fields (field ∷ fields) text at).values
+    ((z : ℤ) (mid : ℕ) → field_at field text at ≡ got z mid → (read_fields fields text mid).end ≡ Ok next → P (z ∷ (read_fields fields text mid).values)) →
+    (read_fields (field ∷ fields) text at).end ≡ Ok next → P (read_fields (field ∷ fields) text at).values
 by_first P field fields text at next holds e =
     rw (reading_first field fields text at) (go (field_at field text at) refl (rw (reading_first field fields text at) at e))
   where
-    go : (answer : LineAnswer ℤ) → field_at field text at ≡ answer → (and_then answer (λ mid. read_fields fields text mid)).end ≡ lines.Read next → P (and_then answer (λ mid. read_fields fields text mid)).values
+    go : (answer : LineAnswer ℤ) → field_at field text at ≡ answer → (and_then answer (λ mid. read_fields fields text mid)).end ≡ Ok next → P (and_then answer (λ mid. read_fields fields text mid)).values
     go (got z mid) h e = holds z mid h e
     go (refused found) h e = let z : ◌≡◌ {A = ℕ} 0 1 = cc in absurd (omega arith)
 
-pairs_in_range_lem : (n : ℕ) (text : List ℕ) (at next : ℕ) → (read_fields (repeated n pair_fields) text at).end ≡ lines.Read next → pairs_in_range (pairs_of n (read_fields (repeated n pair_fields) text at).values) ≡ true
+pairs_in_range_lem : (n : ℕ) (text : List ℕ) (at next : ℕ) → (read_fields (repeated n pair_fields) text at).end ≡ Ok next → pairs_in_range (pairs_of n (read_fields (repeated n pair_fields) text at).values) ≡ true
 pairs_in_range_lem zero text at next e = rw (no_pairs_of (read_fields (repeated zero pair_fields) text at).values) no_pairs_in_range
 pairs_in_range_lem (suc n) text at next e =
     let mu = ranged_field (bytes "mu=") mean_range in
@@ -55,7 +55,7 @@ pairs_in_range_lem (suc n) text at next e =
     (rw (line_in_range (bytes "mu=") mean_range text at h) (line_in_range (bytes "sigma=") spread_range text mid k)) (again last next f))))
     (rw (repeated_more pair_fields n) at e))
 
-pub lines_in_range : (text : List ℕ) (next : ℕ) → (curve_lines text).end ≡ lines.Read next → curves_in_range (curves_of (curve_lines text).values) ≡ true
+pub lines_in_range : (text : List ℕ) (next : ℕ) → (curve_lines text).end ≡ Ok next → curves_in_range (curves_of (curve_lines text).values) ≡ true
 unfolding curve_fields
 lines_in_range text next =
     let rest = repeated 24 pair_fields in

@@ -9,6 +9,7 @@ use lib.IntN.{ℤ, pos, negsuc, nat_abs}
 use lib.Signed.{◌≤ℤ◌}
 use lib.ListN.{length, take}
 use lib.Seq.{take_all}
+use Rattle.std.specs.Prelude.{Ok, Err}
 use Rattle.integer.proofs.Order.{pos-≤ℤ}
 use Rattle.integer.proofs.Bounds.{abs_bound}
 use Rattle.text_number.specs.Number.{written_number}
@@ -23,7 +24,6 @@ use Rattle.curve_set.proofs.CurveValues.{values_in_order, values_length, no_pair
 use Rattle.curve_set.proofs.InRange.{lies_low, lies_high, pair_range, first_in_range, rest_in_range, in_range_voll, in_range_floor, in_range_pairs}
 use Rattle.curve_text.specs.CurveText.{curve_text}
 use Rattle.curve_text.specs.Length.{curves_length}
-use Rattle.curve_text.specs.declared.WrittenCurves.TheVariants as written
 use Rattle.curve_text.proofs.CurveText.{curve_keys, written_by_keys}
 use Rattle.curve_text.proofs.CurveCases.{text_of_values}
 
@@ -59,11 +59,11 @@ even_counted voll floor mean spread =
 -- ---- the length, by the set
 
 module _ (curves : CurveSet) where
-  pub curves_length_refused : curves_in_range curves ≡ false → curves_length curves ≡ written.Refused (record { number = 1; line = 0 })
+  pub curves_length_refused : curves_in_range curves ≡ false → curves_length curves ≡ Err (record { number = 1; line = 0 })
   unfolding curves_length
   curves_length_refused out = rw out
 
-  pub curves_length_told : curves_in_range curves ≡ true → curves_length curves ≡ written.Length (length (curve_text curves))
+  pub curves_length_told : curves_in_range curves ≡ true → curves_length curves ≡ Ok (length (curve_text curves))
   unfolding curves_length
   curves_length_told inside = rw inside
 

@@ -1,4 +1,5 @@
 -- Laws that the functions and crates above cite.
+pub mod MapErr
 pub mod CurveText
 pub mod CurveCases
 pub mod CurveFields

@@ -3,7 +3,7 @@ ghost use Rattle.std.specs.Prelude.{◌≡◌, length};
 ghost use Rattle.curve_text.specs.CurveText.{curve_text};
 ghost use Rattle.curve_text.specs.Length.{curves_length};
 
-use crate::{KEYS, WrittenCurves};
+use crate::KEYS;
 use curve_set::values::values_of;
 use curve_set::{CurveSet, curves_in_range};
 use text_refusal::refusal::Refusal;
@@ -15,21 +15,18 @@ fn text_length(curves: CurveSet) -> usize
 {
     let values = values_of(curves);
     let mut length = KEYS.len() + values.len();
-    let mut i: usize = 0;
-    while i < values.len() {
-        length += number_length(values[i]);
-        i += 1;
+    for value in &values {
+        length += number_length(*value);
     }
     length
 }
 
 // The length of a curve set's text, or why it is not written.
-pub fn curves_length(curves: CurveSet) -> WrittenCurves
+pub fn curves_length(curves: CurveSet) -> Result<usize, Refusal>
     ensures { result ≡ curves_length curves }
 {
     if !curves_in_range(curves) {
-        return WrittenCurves::Refused(Refusal { number: 1, line: 0 });
+        return Err(Refusal { number: 1, line: 0 });
     }
-    let length = text_length(curves);
-    WrittenCurves::Length(length)
+    Ok(text_length(curves))
 }

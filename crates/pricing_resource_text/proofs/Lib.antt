@@ -2,7 +2,7 @@
 pub mod Readings
 pub mod Small
 pub mod Lines
-pub mod Making
 pub mod Numbered
 pub mod Places
 pub mod Marking
+pub mod FirstWord

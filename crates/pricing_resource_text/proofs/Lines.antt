@@ -2,7 +2,7 @@
 use Prim.Native.Nat.{ℕ}
 use mathlib.Core.Path.{◌≡◌, refl, ap}
 use mathlib.Core.List.{List, [], ◌∷◌, ◌++◌}
-use lib.IntN.{pos, neg_ℤ}
+use lib.IntN.{ℤ, pos, neg_ℤ}
 use lib.ListN.{length, replicate}
 use native.Mathlib.Omega.{arith}
 use Rattle.text_refusal.specs.Bytes.{bytes}
@@ -10,7 +10,8 @@ use Rattle.text_refusal.specs.declared.refusal.Fault.{Fault}
 use Rattle.text_line.proofs.LineBytes.{one_line}
 use Rattle.text_line.specs.Field.{Field, LineAnswer, got, refused}
 use Rattle.text_schema.proofs.Fields.{keys_computed}
-use Rattle.text_number.specs.Marked.{Marked, marked_field}
+use Rattle.text_number.specs.Marked.{marked_field}
+use Rattle.text_number.specs.declared.marked.Marked.{Marked}
 use Rattle.text_schema.specs.Schema.{keys_of}
 use Rattle.text_schema.proofs.Marks.{EachMarked, no_marked_lem, one_marked, LinesWithMarks, no_line, marked_one, unmarked_one}
 use Rattle.pricing_resource_text.specs.internal.Marks.{fields_of, FewLines}
@@ -91,14 +92,14 @@ load_long = refl
 
 -- ---- the lines of each kind by keys and bounds, as the code hands them over
 
-pub generator_few : FewLines (bytes "net=lsl=hsl=base=nonspin=cold30=") (neg_ℤ (pos 2000000) ∷ replicate 5 (pos 0)) (replicate 5 (pos 2000000) ++ (pos 1 ∷ [])) (replicate 6 (pos 0))
-generator_few = record { keys_are = ap length (keys_computed (bytes "net=lsl=hsl=base=nonspin=cold30=")); lows_are = refl; highs_are = refl; few = omega arith }
+pub generator_few : {lows highs : List ℤ} → length lows ≡ 6 → length highs ≡ 6 → FewLines (bytes "net=lsl=hsl=base=nonspin=cold30=") lows highs (replicate 6 (pos 0))
+generator_few lows_are highs_are = record { keys_are = ap length (keys_computed (bytes "net=lsl=hsl=base=nonspin=cold30=")); lows_are = lows_are; highs_are = highs_are; few = omega arith }
 
-pub controllable_few : FewLines (bytes "base=lpc=nonspin=regup=") (replicate 4 (pos 0)) (replicate 4 (pos 2000000)) (replicate 4 (pos 0))
-controllable_few = record { keys_are = ap length (keys_computed (bytes "base=lpc=nonspin=regup=")); lows_are = refl; highs_are = refl; few = omega arith }
+pub controllable_few : {lows highs : List ℤ} → length lows ≡ 4 → length highs ≡ 4 → FewLines (bytes "base=lpc=nonspin=regup=") lows highs (replicate 4 (pos 0))
+controllable_few lows_are highs_are = record { keys_are = ap length (keys_computed (bytes "base=lpc=nonspin=regup=")); lows_are = lows_are; highs_are = highs_are; few = omega arith }
 
-pub load_few : FewLines (bytes "rrsok=net=lpc=rrs=") (replicate 4 (pos 0)) (pos 1 ∷ replicate 3 (pos 2000000)) (replicate 4 (pos 0))
-load_few = record { keys_are = ap length (keys_computed (bytes "rrsok=net=lpc=rrs=")); lows_are = refl; highs_are = refl; few = omega arith }
+pub load_few : {lows highs : List ℤ} → length lows ≡ 4 → length highs ≡ 4 → FewLines (bytes "rrsok=net=lpc=rrs=") lows highs (replicate 4 (pos 0))
+load_few lows_are highs_are = record { keys_are = ap length (keys_computed (bytes "rrsok=net=lpc=rrs=")); lows_are = lows_are; highs_are = highs_are; few = omega arith }
 
 pub generator_is : fields_of 5 0 (keys_of (bytes "net=lsl=hsl=base=nonspin=cold30=")) (neg_ℤ (pos 2000000) ∷ replicate 5 (pos 0)) (replicate 5 (pos 2000000) ++ (pos 1 ∷ [])) ≡ generator_fields
 unfolding fields_of generator_fields

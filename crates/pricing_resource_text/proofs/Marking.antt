@@ -1,6 +1,6 @@
 -- Laws on lines of numbers that may be marked, read by keys and bounds: reading line by line into places.
 use Prim.Native.Nat.{ℕ, zero, suc, ◌+◌, ◌-◌, ◌*◌, ◌^◌, ◌≤◌, ◌<◌}
-use native.Mathlib.Nat.{sub-zero, pow-succ'}
+use native.Mathlib.Nat.{sub-zero, add-zero, pow-succ'}
 use native.Mathlib.Numerals.{add-one}
 use native.Mathlib.Omega.{arith}
 use mathlib.Core.Bool.{Bool, true, false, cond}
@@ -15,12 +15,13 @@ use Rattle.text_line.specs.Judged.{good}
 use Rattle.text_line.specs.Line.{value_at, value_fault}
 use Rattle.text_line.specs.Piece.{part, piece_length}
 use Rattle.text_line.specs.Field.{Field, LineAnswer, got, refused, next_at, field_at}
-use Rattle.text_line.specs.declared.Lines.{Lines}
-use Rattle.text_line.specs.declared.Lines.TheVariants as lines
+use Rattle.std.specs.Prelude.{Result, Ok, Err}
 use Rattle.text_line.proofs.Pieces.{piece_none, piece_next}
-use Rattle.text_number.specs.Marked.{Marked, plain_number, marked_refusal, judged_marked, numbers_of, marks_of}
-use Rattle.text_number.specs.declared.marked.MarkedNumber.{MarkedNumber}
-use Rattle.text_number.specs.declared.marked.MarkedNumber.TheVariants as marked-number
+use Rattle.text_number.specs.Number.{number_refusal}
+use Rattle.text_number.specs.Marked.{plain_number, judged_marked, numbers_of, marks_of}
+use Rattle.text_number.specs.declared.marked.Marked.{Marked}
+use Rattle.text_number.specs.declared.NumberError.{NumberError}
+use Rattle.text_number.specs.declared.NumberError.TheVariants as error
 use Rattle.text_number.proofs.Numbers.{number_none}
 use Rattle.text_number.specs.Field.{number_field}
 use Rattle.text_number.proofs.Marks.{by_numbers, by_no_marks, marked_none, marked_got, marked_within, marked_turned, marks_none, marks_last, marks_few}
@@ -30,45 +31,18 @@ use Rattle.text_schema.proofs.Fields.{numbers_first, numbers_no_keys}
 use Rattle.text_schema.proofs.Schemas.{no_lows, no_highs}
 use Rattle.text_schema.proofs.Marks.{LineBeside, Beside, none_beside, one_beside, marked_line, unmarked_line, plain_read}
 use Rattle.pricing_resource_text.specs.Resource.{with_marks, lines_as}
-use Rattle.pricing_resource_text.specs.internal.Marks.{marked_or_flag, number_or, mark_or, line_field, fields_of, FewLines, MarksRead}
+use Rattle.pricing_resource_text.specs.internal.Marks.{marked_or_flag, line_field, fields_of, FewLines, MarksRead}
 use Rattle.pricing_resource_text.specs.declared.marks.MarkedLines.{MarkedLines}
-use Rattle.pricing_resource_text.specs.declared.marks.MarkedLines.TheVariants as marked-lines
 
 -- ---- one value
 
--- the number and the mark of an answer that is no refusal
-abbrev pub marked_value : MarkedNumber → Marked
-marked_value (marked-number.Plain z) = record { number = z; suspect = false }
-marked_value (marked-number.Suspect z) = record { number = z; suspect = true }
-marked_value marked-number.Outside = record { number = pos 0; suspect = false }
-marked_value marked-number.Malformed = record { number = pos 0; suspect = false }
+-- a value that is no number is refused
+refused_some : (n : Result Marked NumberError) → ((m : Marked) → n ≡ Ok m → ⊥) → number_refusal n ≡ 0 → ⊥
+refused_some (Ok m) not_taken e = not_taken m refl
+refused_some (Err error.Outside) not_taken e = let z : ◌≡◌ {A = ℕ} 7 0 = e in omega arith
+refused_some (Err error.Malformed) not_taken e = let z : ◌≡◌ {A = ℕ} 6 0 = e in omega arith
 
-value_taken : (n : MarkedNumber) → marked_refusal n ≡ 0 → judged_marked n ≡ good (marked_value n)
-value_taken (marked-number.Plain z) e = refl
-value_taken (marked-number.Suspect z) e = refl
-value_taken marked-number.Outside e = absurd (omega arith)
-value_taken marked-number.Malformed e = absurd (omega arith)
-
-number_of-value : (n : MarkedNumber) → number_or n (pos 0) ≡ (marked_value n).number
-number_of-value (marked-number.Plain z) = refl
-number_of-value (marked-number.Suspect z) = refl
-number_of-value marked-number.Outside = refl
-number_of-value marked-number.Malformed = refl
-
-mark_of_value : (n : MarkedNumber) (mark : ℕ) → mark_or n mark ≡ cond (marked_value n).suspect mark 0
-mark_of_value (marked-number.Plain z) mark = refl
-mark_of_value (marked-number.Suspect z) mark = refl
-mark_of_value marked-number.Outside mark = refl
-mark_of_value marked-number.Malformed mark = refl
-
--- a mark is no larger than its place allows
-pub mark_small : (n : MarkedNumber) (mark : ℕ) → mark_or n mark ≤ mark
-mark_small (marked-number.Plain z) mark = omega arith
-mark_small (marked-number.Suspect z) mark = omega arith
-mark_small marked-number.Outside mark = omega arith
-mark_small marked-number.Malformed mark = omega arith
-
-value_empty : (flag : Bool) (low high : ℤ) → marked_or_flag flag low high [] ≡ marked-number.Malformed
+value_empty : (flag : Bool) (low high : ℤ) → marked_or_flag flag low high [] ≡ Err error.Malformed
 value_empty true low high = ap plain_number (sym (number_none low high [] refl))
 value_empty false low high = sym (marked_none low high [] refl)
 
@@ -128,15 +102,15 @@ module _
       powers (suc (suc (suc (suc (suc (suc (suc (suc zero)))))))) h = omega arith
       powers (suc (suc (suc (suc (suc (suc (suc (suc (suc n))))))))) h = absurd (omega arith)
 
-  pub marked_over : length places ≤ i → MarksRead (fields_of flag 0 (keys_of keys) lows highs) text at out (marked-lines.Read marks next)
+  pub marked_over : length places ≤ i → MarksRead (fields_of flag 0 (keys_of keys) lows highs) text at out (Ok (record { marks = marks; next = next }))
   unfolding fields_of
   marked_over h =
       let none : fields_of flag i (keys_of (drop from keys)) (drop i lows) (drop i highs) ≡ [] = no_keys (keys_of (drop from keys)) (omega (arith, so_far.keys_left)) in
-      let all : read_fields (fields_of flag 0 (keys_of keys) lows highs) text at ≡ record { values = so_far.values; end = lines.Read next } =
+      let all : read_fields (fields_of flag 0 (keys_of keys) lows highs) text at ≡ record { values = so_far.values; end = Ok next } =
       so_far.rest ∙ rw (none, reading_none {A = Marked}, append-nil) in
       record {
-        taken = λ marks' next' e.
-            let same : (marks ≡ marks') × (next ≡ next') = (cc, cc) in
+        taken = λ found e.
+            let same : (marks ≡ found.marks) × (next ≡ found.next) = (cc, cc) in
             rw (all) (rw same.1, (rw (← same.0) so_far.marked, rw (so_far.laid, drop_of_length-le places {i = i} h) (append-nil (numbers_of so_far.values))));
         refused = λ found e. let z : ◌≡◌ {A = ℕ} 0 1 = cc in absurd (omega arith);
       }
@@ -158,7 +132,7 @@ module _
         rw (piece_next 61 keys from end ends key_some, drop-cons lows i (pos 0) (omega (arith, few.lows_are)), drop-cons highs i (pos 0) (omega (arith, few.highs_are)))
 
     module _
-        {key bytes : List ℕ} {n : MarkedNumber} (key_is : key ≡ part keys from end) (bytes_are : bytes ≡ value_at key text next)
+        {key bytes : List ℕ} {n : Result Marked NumberError} (key_is : key ≡ part keys from end) (bytes_are : bytes ≡ value_at key text next)
         (is : n ≡ marked_or_flag (eqb i flag) (value lows i) (value highs i) bytes) where
       due :
           (answer : LineAnswer Marked) → answer ≡ field_at (line_field (eqb i flag) key (value lows i) (value highs i)) text next →
@@ -169,48 +143,51 @@ module _
           ∙ rw (fields_next, reading_first (line_field (eqb i flag) (part keys from end) (value lows i) (value highs i)) (fields_of flag (suc i) (keys_of (drop end keys)) (drop (suc i) lows) (drop (suc i) highs)) text next, ← key_is, ← answers)
 
       pub marked_stop :
-          {k : ℕ} → k ≡ marked_refusal n → (k ≡ 0 → ⊥) → {found : Fault} → found ≡ value_fault key text next k →
-          {after : List ℤ} → MarksRead (fields_of flag 0 (keys_of keys) lows highs) text at after (marked-lines.Refused found)
-      marked_stop {k} refusal_is turned {found} fault_is =
+          ((m : Marked) → n ≡ Ok m → ⊥) → {k : ℕ} → k ≡ number_refusal n → {found : Fault} → found ≡ value_fault key text next k →
+          {after : List ℤ} → MarksRead (fields_of flag 0 (keys_of keys) lows highs) text at after (Err found)
+      marked_stop not_taken {k} refusal_is {found} fault_is =
           let told : refused found ≡ field_at (line_field (eqb i flag) key (value lows i) (value highs i)) text next =
-          rw (fault_is, refusal_is) (marked_turned key text next (marked_or_flag (eqb i flag) (value lows i) (value highs i)) (value_empty (eqb i flag) (value lows i) (value highs i)) bytes_are is (rw refusal_is at turned)) in
+          rw (fault_is, refusal_is) (marked_turned key text next (marked_or_flag (eqb i flag) (value lows i) (value highs i)) (value_empty (eqb i flag) (value lows i) (value highs i)) bytes_are is (refused_some n not_taken)) in
           let all = due (refused found) told in
           record {
-            taken = λ marks' next' e. let z : ◌≡◌ {A = ℕ} 0 1 = cc in absurd (omega arith);
+            taken = λ read e. let z : ◌≡◌ {A = ℕ} 0 1 = cc in absurd (omega arith);
             refused = λ other e. let same : found ≡ other = cc in rw (all, same);
           }
 
-      module _ (taken : marked_refusal n ≡ 0) where
+      module _ {m : Marked} (taken : n ≡ Ok m) where
         pub marked_fits : next_at next key bytes ≤ length text
-        marked_fits = marked_within key text next (marked_or_flag (eqb i flag) (value lows i) (value highs i)) (value_empty (eqb i flag) (value lows i) (value highs i)) bytes_are is (value_taken n taken)
+        marked_fits =
+            let told : judged_marked n ≡ good m = rw taken in
+            marked_within key text next (marked_or_flag (eqb i flag) (value lows i) (value highs i)) (value_empty (eqb i flag) (value lows i) (value highs i)) bytes_are is told
 
         pub marked_more :
-            {after : ℕ} → after ≡ next_at next key bytes → {z : ℤ} → z ≡ number_or n (pos 0) → {more_marks : ℕ} → more_marks ≡ mark_or n mark →
-            MarkedFrom flag text at keys lows highs places (set out i z) after end (marks + more_marks) (mark * 2) (i + 1)
-        marked_more {after} after_is {z} z_is {more_marks} marks_are =
-            let m : Marked = marked_value n in
-            let all = due (got m after) (rw after_is (marked_got key text next (marked_or_flag (eqb i flag) (value lows i) (value highs i)) (value_empty (eqb i flag) (value lows i) (value highs i)) bytes_are is (value_taken n taken))) in
-            let here : z ≡ m.number = z_is ∙ number_of-value n in
+            {after : ℕ} → after ≡ next_at next key bytes → {more_marks : ℕ} → more_marks ≡ cond m.suspect (marks + mark) marks →
+            MarkedFrom flag text at keys lows highs places (set out i m.number) after end more_marks (mark * 2) (i + 1)
+        marked_more {after} after_is {more_marks} marks_are =
+            let all = due (got m after) (rw after_is (marked_got key text next (marked_or_flag (eqb i flag) (value lows i) (value highs i)) (value_empty (eqb i flag) (value lows i) (value highs i)) bytes_are is (rw taken))) in
             record {
               values = so_far.values ++ (m ∷ []);
               counted = length-append so_far.values (m ∷ []) ∙ ap (λ (k : ℕ). k + 1) so_far.counted;
               within = omega arith;
-              long = length-set out i z ∙ so_far.long;
+              long = length-set out i m.number ∙ so_far.long;
               laid =
                   rw (
                     so_far.laid,
                     drop-cons places i (pos 0) (omega arith),
-                    set_at (numbers_of so_far.values) (get_or places i (pos 0)) (drop (suc i) places) z i (length-map so_far.values (λ (one : Marked). one.number) ∙ so_far.counted),
+                    set_at (numbers_of so_far.values) (get_or places i (pos 0)) (drop (suc i) places) m.number i (length-map so_far.values (λ (one : Marked). one.number) ∙ so_far.counted),
                     map-append (λ (one : Marked). one.number) so_far.values (m ∷ []),
                     append_assoc,
                     add-one,
-                    here,
                   );
-              marked = rw (so_far.marked, marks_are, mark_of_value n mark, so_far.weight, ← so_far.counted) (sym (marks_last so_far.values m));
+              marked = marks_are ∙ with_one m.suspect ∙ rw (so_far.marked, so_far.weight, ← so_far.counted) (sym (marks_last so_far.values m));
               weight = omega (arith, so_far.weight, ap (λ (k : ℕ). 2 ^ k) (add-one i), pow-succ' 2 i);
               keys_left = omega (arith, so_far.keys_left, ap length (piece_next 61 keys from end ends key_some));
               rest = rw (all, append_assoc, add-one);
             }
+          where
+            with_one : (suspect : Bool) → cond suspect (marks + mark) marks ≡ marks + cond suspect mark 0
+            with_one true = refl
+            with_one false = sym (add-zero marks)
 
 -- ---- lines without marks
 
@@ -235,30 +212,36 @@ numbers_length (key ∷ keys) (low ∷ lows) (high ∷ highs) l h =
 
 -- lines that were read as numbers alone
 pub marked_unmarked :
-    (flag : ℕ) {text : List ℕ} {at : ℕ} {keys : List ℕ} {lows highs places after : List ℤ} {ended : Lines} → FewLines keys lows highs places →
-    LinesRead text at keys lows highs places after ended → {next : ℕ} → ended ≡ lines.Read next →
-    MarksRead (fields_of flag 0 (keys_of keys) lows highs) text at after (marked-lines.Read 0 next)
+    (flag : ℕ) {text : List ℕ} {at : ℕ} {keys : List ℕ} {lows highs places after : List ℤ} {ended : Result ℕ Fault} → FewLines keys lows highs places →
+    LinesRead text at keys lows highs places after ended → {next : ℕ} → ended ≡ Ok next →
+    MarksRead (fields_of flag 0 (keys_of keys) lows highs) text at after (Ok (record { marks = 0; next = next }))
 marked_unmarked flag {text} {at} {keys} {lows} {highs} {places} {after} few read {next} told =
     let plain : List (Field ℤ) = number_fields (keys_of keys) lows highs in
     let long : length plain ≡ length places =
     numbers_length (keys_of keys) lows highs (few.lows_are ∙ sym few.keys_are) (few.highs_are ∙ sym few.keys_are) ∙ few.keys_are in
     let schema : placed_fields keys lows highs places ≡ plain = take_all (length places) plain (omega arith) in
-    let ends : (read_fields plain text at).end ≡ lines.Read next = sym (lines_ends plain schema long read) ∙ told in
+    let ends : (read_fields plain text at).end ≡ Ok next = sym (lines_ends plain schema long read) ∙ told in
     let all = plain_read (fields_beside flag 0 (keys_of keys) lows highs) text at next ends in
     record {
-      taken = λ marks' next' e.
-          let same : (0 ≡ marks') × (next ≡ next') = (cc, cc) in
+      taken = λ found e.
+          let same : (0 ≡ found.marks) × (next ≡ found.next) = (cc, cc) in
           rw all (rw same.1, (rw (← same.0) (sym (by_no_marks (read_fields plain text at).values)), lines_values plain schema long read next told ∙ sym (by_numbers 0 (read_fields plain text at).values)));
       refused = λ found e. let z : ◌≡◌ {A = ℕ} 0 1 = cc in absurd (omega arith);
     }
 
 -- ---- a resource made of them
 
-module _ {A : Type 0} (make : ℕ → List ℤ → A) {fields : List (Field Marked)} {text : List ℕ} {at : ℕ} {after : List ℤ} {ended : MarkedLines} (read : MarksRead fields text at after ended) where
-  pub made_read : {marks next : ℕ} {one : A} → ended ≡ marked-lines.Read marks next → one ≡ make marks after → got one next ≡ lines_as (with_marks make) fields text at
-  made_read {marks} {next} told is =
-      let found = read.taken marks next told in
-      rw (found.0, is, found.1.0, found.1.1)
+-- the same lines, by another list of the same fields
+pub read_as :
+    {fields same : List (Field Marked)} {text : List ℕ} {at : ℕ} {after : List ℤ} {ended : Result MarkedLines Fault} → fields ≡ same →
+    MarksRead fields text at after ended → MarksRead same text at after ended
+read_as e read = rw e at read
 
-  pub made_refused : {found : Fault} → ended ≡ marked-lines.Refused found → refused found ≡ lines_as (with_marks make) fields text at
+module _ {A : Type 0} (make : ℕ → List ℤ → A) {fields : List (Field Marked)} {text : List ℕ} {at : ℕ} {after : List ℤ} {ended : Result MarkedLines Fault} (read : MarksRead fields text at after ended) where
+  pub made_read : {found : MarkedLines} {one : A} → ended ≡ Ok found → one ≡ make found.marks after → got one found.next ≡ lines_as (with_marks make) fields text at
+  made_read {found} told is =
+      let has = read.taken found told in
+      rw (has.0, is, has.1.0, has.1.1)
+
+  pub made_refused : {found : Fault} → ended ≡ Err found → refused found ≡ lines_as (with_marks make) fields text at
   made_refused {found} told = rw (read.refused found told)

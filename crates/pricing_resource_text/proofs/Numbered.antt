@@ -4,8 +4,8 @@ use mathlib.Core.List.{List}
 use lib.IntN.{pos, neg_ℤ}
 use Rattle.text_refusal.specs.Bytes.{bytes}
 use Rattle.text_line.specs.Field.{Field, LineAnswer, got, refused, field_at}
-use Rattle.text_line.specs.declared.Lines.{Lines}
-use Rattle.text_line.specs.declared.Lines.TheVariants as lines
+use Rattle.std.specs.Prelude.{Result, Ok, Err}
+use Rattle.text_refusal.specs.declared.refusal.Fault.{Fault}
 use Rattle.text_line.proofs.FieldTexts.{LineNumbered, FieldNumbered, field_numbered}
 use Rattle.text_word.proofs.Words.{word_numbered}
 use Rattle.text_schema.specs.Schema.{read_fields}
@@ -22,9 +22,9 @@ after_numbered (refused found) more n others = n
 lines_numbered : {A B : Type 0} (make : List A → B) (fields : List (Field A)) → FieldsNumbered fields → (text : List ℕ) (at : ℕ) → LineNumbered (lines_as make fields text at)
 lines_numbered make fields each text at = go (read_fields fields text at).end (reading_numbered fields each text at)
   where
-    go : (ended : Lines) → LinesNumbered ended → LineNumbered (of_lines make (read_fields fields text at).values ended)
-    go (lines.Read next) n = tt
-    go (lines.Refused found) n = n
+    go : (ended : Result ℕ Fault) → LinesNumbered ended → LineNumbered (of_lines make (read_fields fields text at).values ended)
+    go (Ok next) n = tt
+    go (Err found) n = n
 
 power : (key : List ℕ) → FieldNumbered (resource_power key)
 power key = marked_numbered key (pos 0) (pos 2000000)

@@ -9,7 +9,7 @@ use lib.IntN.{pos, neg_ℤ}
 use lib.ListN.{length}
 use Rattle.text_refusal.specs.Bytes.{bytes}
 use Rattle.text_line.specs.Field.{Field}
-use Rattle.text_number.specs.Marked.{Marked}
+use Rattle.text_number.specs.declared.marked.Marked.{Marked}
 use Rattle.text_word.specs.Word.{word_field}
 use Rattle.text_word.proofs.Words.{none_empty, empty_unknown, word_past, distinct, word_itself}
 use Rattle.text_schema.specs.Schema.{keys_of}

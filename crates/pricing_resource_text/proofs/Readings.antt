@@ -8,11 +8,11 @@ use lib.Dec.{lit<}
 use lib.IntN.{pos, neg_ℤ}
 use Rattle.text_refusal.specs.Bytes.{bytes}
 use Rattle.text_line.specs.Field.{Field, LineAnswer, got, refused, field_at}
-use Rattle.text_number.specs.Marked.{Marked}
+use Rattle.text_number.specs.declared.marked.Marked.{Marked}
 use Rattle.text_schema.specs.Schema.{Reading, read_fields}
 use Rattle.text_schema.proofs.Marks.{marked_at, unmarked_at}
-use Rattle.text_line.specs.declared.Lines.{Lines}
-use Rattle.text_line.specs.declared.Lines.TheVariants as lines
+use Rattle.std.specs.Prelude.{Result, Ok, Err}
+use Rattle.text_refusal.specs.declared.refusal.Fault.{Fault}
 use Rattle.pricing_resource_text.specs.Resource.{kind_field, status_field, status_of, generator_fields, controllable_fields, load_fields, generator_of, controllable_of, load_of, with_marks, after_answer, of_lines, lines_as, generator_at, of_kind, resource_at}
 use Rattle.pricing_resource.specs.declared.Kind.{Kind}
 use Rattle.pricing_resource.specs.declared.Kind.TheVariants as kind
@@ -34,14 +34,14 @@ followed (got one after) more e = record { one = one; after = after; given = ref
 followed (refused fault) more e = let z : ◌≡◌ {A = ℕ} 0 1 = cc in absurd (omega arith)
 
 pub record LinesGiven {A B : Type 0} (make : List A → B) (reading : Reading A) (found : B) (next : ℕ) : Type 0 where
-  pub ended : reading.end ≡ lines.Read next
+  pub ended : reading.end ≡ Ok next
   pub made : make reading.values ≡ found
 
-pub lines_given : {A B : Type 0} (make : List A → B) (values : List A) (end : Lines) {found : B} {next : ℕ} → of_lines make values end ≡ got found next → LinesGiven make (record { values = values; end = end }) found next
-lines_given make values (lines.Read next) e = record { ended = cc; made = cc }
-lines_given make values (lines.Refused fault) e = let z : ◌≡◌ {A = ℕ} 0 1 = cc in absurd (omega arith)
+pub lines_given : {A B : Type 0} (make : List A → B) (values : List A) (end : Result ℕ Fault) {found : B} {next : ℕ} → of_lines make values end ≡ got found next → LinesGiven make (record { values = values; end = end }) found next
+lines_given make values (Ok next) e = record { ended = cc; made = cc }
+lines_given make values (Err fault) e = let z : ◌≡◌ {A = ℕ} 0 1 = cc in absurd (omega arith)
 
-pub generator_read : (k : Kind) (s : Status) (text : List ℕ) (at next : ℕ) → (read_fields generator_fields text at).end ≡ lines.Read next → ResourceInRange (with_marks (generator_of k s) (read_fields generator_fields text at).values)
+pub generator_read : (k : Kind) (s : Status) (text : List ℕ) (at next : ℕ) → (read_fields generator_fields text at).end ≡ Ok next → ResourceInRange (with_marks (generator_of k s) (read_fields generator_fields text at).values)
 unfolding generator_fields
 generator_read k s text at next e =
     record {
@@ -53,7 +53,7 @@ generator_read k s text at next e =
       cold30 = unmarked_at generator_fields text at next e 5 (lit< tt) (bytes "cold30=") (pos 0) (pos 1) refl;
     }
 
-pub controllable_read : (text : List ℕ) (at next : ℕ) → (read_fields controllable_fields text at).end ≡ lines.Read next → ResourceInRange (with_marks controllable_of (read_fields controllable_fields text at).values)
+pub controllable_read : (text : List ℕ) (at next : ℕ) → (read_fields controllable_fields text at).end ≡ Ok next → ResourceInRange (with_marks controllable_of (read_fields controllable_fields text at).values)
 unfolding controllable_fields
 controllable_read text at next e =
     record {
@@ -63,7 +63,7 @@ controllable_read text at next e =
       regup = marked_at controllable_fields text at next e 3 (lit< tt) (bytes "regup=") (pos 0) (pos 2000000) refl;
     }
 
-pub load_read : (text : List ℕ) (at next : ℕ) → (read_fields load_fields text at).end ≡ lines.Read next → ResourceInRange (with_marks load_of (read_fields load_fields text at).values)
+pub load_read : (text : List ℕ) (at next : ℕ) → (read_fields load_fields text at).end ≡ Ok next → ResourceInRange (with_marks load_of (read_fields load_fields text at).values)
 unfolding load_fields
 load_read text at next e =
     record {
@@ -74,7 +74,7 @@ load_read text at next e =
     }
 
 -- a resource made of values in range
-in_range : (make : List Marked → Resource) (fields : List (Field Marked)) (text : List ℕ) (at : ℕ) {one : Resource} {next : ℕ} → ((next : ℕ) → (read_fields fields text at).end ≡ lines.Read next → ResourceInRange (make (read_fields fields text at).values)) → lines_as make fields text at ≡ got one next → ResourceInRange one
+in_range : (make : List Marked → Resource) (fields : List (Field Marked)) (text : List ℕ) (at : ℕ) {one : Resource} {next : ℕ} → ((next : ℕ) → (read_fields fields text at).end ≡ Ok next → ResourceInRange (make (read_fields fields text at).values)) → lines_as make fields text at ≡ got one next → ResourceInRange one
 in_range make fields text at {next = next} known e =
     let given = lines_given make (read_fields fields text at).values (read_fields fields text at).end e in
     subst (λ (x : Resource). ResourceInRange x) given.made (known next given.ended)

@@ -11,7 +11,8 @@ use Rattle.integer.proofs.Order.{le_z-true}
 use Rattle.text_refusal.specs.Bytes.{bytes}
 use Rattle.text_line.specs.Judged.{good}
 use Rattle.text_line.specs.Field.{Field}
-use Rattle.text_number.specs.Marked.{Marked, marked_field, numbers_of}
+use Rattle.text_number.specs.Marked.{marked_field, numbers_of}
+use Rattle.text_number.specs.declared.marked.Marked.{Marked}
 use Rattle.text_number.proofs.Marks.{unmarked_between, marked_between}
 use Rattle.text_schema.specs.Schema.{read_fields, value}
 use Rattle.text_schema.proofs.Readings.{AllRead, values_all}

@@ -1,12 +1,12 @@
 -- Document 01, "Snapshot to reserves": a resource's kind and its fields.
-use Rattle.std.specs.Prelude.{ℕ, zero, suc, List, [], ◌∷◌, ℤ, pos, neg_ℤ}
+use Rattle.std.specs.Prelude.{ℕ, zero, suc, List, [], ◌∷◌, ℤ, pos, neg_ℤ, Result, Ok, Err}
+use Rattle.text_refusal.specs.declared.refusal.Fault.{Fault}
 use Rattle.text_refusal.specs.Bytes.{bytes}
 use Rattle.text_line.specs.Field.{Field, LineAnswer, got, refused, field_at}
-use Rattle.text_number.specs.Marked.{Marked, marked_field, unmarked_field, numbers_of, marks_of}
+use Rattle.text_number.specs.Marked.{marked_field, unmarked_field, numbers_of, marks_of}
+use Rattle.text_number.specs.declared.marked.Marked.{Marked}
 use Rattle.text_schema.specs.Schema.{read_fields}
 use Rattle.text_word.specs.Word.{word_field}
-use Rattle.text_line.specs.declared.Lines.{Lines}
-use Rattle.text_line.specs.declared.Lines.TheVariants as lines
 use Rattle.text_schema.specs.Schema.{value}
 use Rattle.pricing_resource.specs.declared.Kind.{Kind}
 use Rattle.pricing_resource.specs.declared.Kind.TheVariants as kind
@@ -15,7 +15,6 @@ use Rattle.pricing_resource.specs.declared.Status.TheVariants as status
 use Rattle.pricing_resource.specs.declared.Resource.{Resource}
 use Rattle.pricing_resource.specs.declared.Resource.TheVariants as resource
 use Rattle.pricing_resource_text.specs.declared.ResourceLines.{ResourceLines}
-use Rattle.pricing_resource_text.specs.declared.ResourceLines.TheVariants as resource-lines
 
 -- ---- words
 
@@ -99,9 +98,9 @@ abbrev pub after_answer : {A B : Type 0} → LineAnswer A → (A → ℕ → Lin
 after_answer (got found next) more = more found next
 after_answer (refused found) more = refused found
 
-abbrev pub of_lines : {A B : Type 0} → (List A → B) → List A → Lines → LineAnswer B
-of_lines make values (lines.Read next) = got (make values) next
-of_lines make values (lines.Refused found) = refused found
+abbrev pub of_lines : {A B : Type 0} → (List A → B) → List A → Result ℕ Fault → LineAnswer B
+of_lines make values (Ok next) = got (make values) next
+of_lines make values (Err found) = refused found
 
 abbrev pub lines_as : {A B : Type 0} → (List A → B) → List (Field A) → List ℕ → ℕ → LineAnswer B
 lines_as make fields text at = of_lines make (read_fields fields text at).values (read_fields fields text at).end
@@ -121,6 +120,6 @@ unfoldable pub resource_at : List ℕ → ℕ → LineAnswer Resource
 resource_at text at = after_answer (field_at kind_field text at) (λ k next. of_kind text k next)
 
 -- what an answer of the resource reader says
-abbrev pub lines_answer : ResourceLines → LineAnswer Resource
-lines_answer (resource-lines.Read found next) = got found next
-lines_answer (resource-lines.Refused found) = refused found
+abbrev pub lines_answer : Result ResourceLines Fault → LineAnswer Resource
+lines_answer (Ok read) = got read.resource read.next
+lines_answer (Err found) = refused found

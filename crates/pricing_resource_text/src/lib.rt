@@ -14,17 +14,16 @@ use crate::words::kind_word;
 use pricing_resource::{Kind, Resource};
 use text_line::line::{line_value, value_fault};
 use text_refusal::refusal::Fault;
-use text_word::Word;
 
-// A resource read and where the next one starts, or a refused line.
+// A resource read, and where the next one starts.
 #[derive(Clone, Copy)]
-pub enum ResourceLines {
-    Read { resource: Resource, next: usize },
-    Refused(Fault),
+pub struct ResourceLines {
+    pub resource: Resource,
+    pub next: usize,
 }
 
 // The lines of a resource after its kind.
-fn of_kind(text: &[u8], index: usize, at: usize) -> ResourceLines
+fn of_kind(text: &[u8], index: usize, at: usize) -> Result<ResourceLines, Fault>
     ensures { lines_answer result ≡ of_kind text.now index at }
 {
     match index {
@@ -38,13 +37,12 @@ fn of_kind(text: &[u8], index: usize, at: usize) -> ResourceLines
 }
 
 // The lines of one resource after its id: its kind, then those of the kind.
-pub fn resource_at(text: &[u8], at: usize) -> ResourceLines
+pub fn resource_at(text: &[u8], at: usize) -> Result<ResourceLines, Fault>
     ensures { lines_answer result ≡ resource_at text.now at }
 {
     let value = line_value(text, at, b"kind=");
-    let w = kind_word(value);
-    let Word::Index(index) = w else {
-        return ResourceLines::Refused(value_fault(text, at, b"kind=", 6));
+    let Some(index) = kind_word(value) else {
+        return Err(value_fault(text, at, b"kind=", 6));
     };
     of_kind(text, index, at + 5 + value.len() + 1)
 }

@@ -1,16 +1,16 @@
 // A resource made of its status, by its place in the list of words, of its marks and of its values.
-ghost use Rattle.std.specs.Prelude.{◌≡◌, ℕ, ◌≤◌, ◌<◌, nat_abs, length};
+ghost use Rattle.std.specs.Prelude.{◌≡◌, ℕ, ◌≤◌, nat_abs};
 ghost use Rattle.text_schema.specs.Schema.{value};
 ghost use Rattle.pricing_resource_text.specs.Resource.{status_of, generator_of, controllable_of, load_of};
 
 use pricing_resource::{Controllable, Generator, Kind, Load, Resource, Status};
 
-// One of the numbers read, by its place, in half the width.
-fn number(v: &[i64], place: usize) -> i32
-    requires { (place < length v.now) × nat_abs (value v.now place) ≤ 2000000 }
-    ensures { result ≡ value v.now place }
+// One of the numbers read, in half the width.
+fn number(z: i64) -> i32
+    requires { nat_abs z ≤ 2000000 }
+    ensures { result ≡ z }
 {
-    v[place] as i32
+    z as i32
 }
 
 // A status by its place in the list of words.
@@ -29,45 +29,45 @@ pub fn status_of(index: usize) -> Status
 }
 
 // A resource of each kind by its values.
-pub(crate) fn generator_of(kind: Kind, status: Status, marks: u64, v: &[i64]) -> Resource
-    requires { (length v.now ≡ 6) × ((place : ℕ) → nat_abs (value v.now place) ≤ 2000000) }
+pub(crate) fn generator_of(kind: Kind, status: Status, marks: u64, v: &[i64; 6]) -> Resource
+    requires { (place : ℕ) → nat_abs (value v.now place) ≤ 2000000 }
     ensures { result ≡ generator_of kind status marks v.now }
 {
     Resource::Generator(Generator {
         kind,
         status,
-        net: number(v, 0),
-        lsl: number(v, 1),
-        hsl: number(v, 2),
-        base: number(v, 3),
-        nonspin: number(v, 4),
-        cold30: number(v, 5),
+        net: number(v[0]),
+        lsl: number(v[1]),
+        hsl: number(v[2]),
+        base: number(v[3]),
+        nonspin: number(v[4]),
+        cold30: number(v[5]),
         marks,
     })
 }
 
-pub(crate) fn controllable_of(marks: u64, v: &[i64]) -> Resource
-    requires { (length v.now ≡ 4) × ((place : ℕ) → nat_abs (value v.now place) ≤ 2000000) }
+pub(crate) fn controllable_of(marks: u64, v: &[i64; 4]) -> Resource
+    requires { (place : ℕ) → nat_abs (value v.now place) ≤ 2000000 }
     ensures { result ≡ controllable_of marks v.now }
 {
     Resource::Controllable(Controllable {
-        base: number(v, 0),
-        lpc: number(v, 1),
-        nonspin: number(v, 2),
-        regup: number(v, 3),
+        base: number(v[0]),
+        lpc: number(v[1]),
+        nonspin: number(v[2]),
+        regup: number(v[3]),
         marks,
     })
 }
 
-pub(crate) fn load_of(marks: u64, v: &[i64]) -> Resource
-    requires { (length v.now ≡ 4) × ((place : ℕ) → nat_abs (value v.now place) ≤ 2000000) }
+pub(crate) fn load_of(marks: u64, v: &[i64; 4]) -> Resource
+    requires { (place : ℕ) → nat_abs (value v.now place) ≤ 2000000 }
     ensures { result ≡ load_of marks v.now }
 {
     Resource::Load(Load {
-        rrsok: number(v, 0),
-        net: number(v, 1),
-        lpc: number(v, 2),
-        rrs: number(v, 3),
+        rrsok: number(v[0]),
+        net: number(v[1]),
+        lpc: number(v[2]),
+        rrs: number(v[3]),
         marks,
     })
 }

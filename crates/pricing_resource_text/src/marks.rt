@@ -1,23 +1,24 @@
 // The numbers of a resource, all of which but its flag may be marked suspect.
 ghost use Rattle.std.specs.Prelude.{◌≡◌};
 ghost use Rattle.text_schema.specs.Schema.{keys_of};
-ghost use Rattle.pricing_resource_text.specs.internal.Marks.{marked_or_flag, number_or, mark_or, fields_of, FewLines, MarksRead};
+ghost use Rattle.pricing_resource_text.specs.internal.Marks.{marked_or_flag, fields_of, FewLines, MarksRead};
 
 use text_line::line::{line_value, value_fault};
 use text_line::piece::{part, piece_end};
-use text_number::marked::{MarkedNumber, marked_of, marked_refusal, plain_number};
-use text_number::number_of;
+use text_number::marked::{Marked, marked_of, plain_number};
+use text_number::{NumberError, number_of, number_refusal};
 use text_refusal::refusal::Fault;
+use text_schema::read_lines;
 
-// Which of the numbers read are marked and where their lines end, or a refused line.
+// Which of the numbers read are marked, and where their lines end.
 #[derive(Clone, Copy)]
-pub(crate) enum MarkedLines {
-    Read { marks: u64, next: usize },
-    Refused(Fault),
+pub(crate) struct MarkedLines {
+    pub marks: u64,
+    pub next: usize,
 }
 
 // The value of a flag, which carries no mark, or of a number that may be marked.
-fn marked_or_flag(value: &[u8], low: i64, high: i64, flag: bool) -> MarkedNumber
+fn marked_or_flag(value: &[u8], low: i64, high: i64, flag: bool) -> Result<Marked, NumberError>
     ensures { result ≡ marked_or_flag flag low high value.now }
 {
     if flag {
@@ -26,32 +27,9 @@ fn marked_or_flag(value: &[u8], low: i64, high: i64, flag: bool) -> MarkedNumber
     marked_of(value, low, high)
 }
 
-// The number that was taken.
-fn number_or(n: MarkedNumber, other: i64) -> i64
-    ensures { result ≡ number_or n other }
-{
-    match n {
-        MarkedNumber::Plain(z) => z,
-        MarkedNumber::Suspect(z) => z,
-        MarkedNumber::Outside => other,
-        MarkedNumber::Malformed => other,
-    }
-}
-
-// Its mark.
-fn mark_or(n: MarkedNumber, mark: u64) -> u64
-    ensures { result ≡ mark_or n mark }
-{
-    match n {
-        MarkedNumber::Plain(_) => 0,
-        MarkedNumber::Suspect(_) => mark,
-        MarkedNumber::Outside => 0,
-        MarkedNumber::Malformed => 0,
-    }
-}
-
 // The lines due at a position, each a number under its key within its bounds, into their places; the one at the place `flag` carries no mark.
-pub(crate) fn marked_lines(
+#[tactic(auto, using(crate::proofs::Marking::marked_start))]
+fn marked_lines(
     text: &[u8],
     at: usize,
     keys: &[u8],
@@ -59,7 +37,7 @@ pub(crate) fn marked_lines(
     highs: &[i64],
     flag: usize,
     out: &mut [i64],
-) -> MarkedLines
+) -> Result<MarkedLines, Fault>
     requires { FewLines keys.now lows.now highs.now out.old }
     ensures { MarksRead (fields_of flag 0 (keys_of keys.now) lows.now highs.now) text.now at out.new result }
 {
@@ -67,22 +45,40 @@ pub(crate) fn marked_lines(
     let mut from: usize = 0;
     let mut marks: u64 = 0;
     let mut mark: u64 = 1;
-    let mut i: usize = 0;
-    while i < out.len() {
-        let end = piece_end(keys, from, 61);
+    for i in 0..out.len() {
+        let end = piece_end(keys, from, b'=');
         let key = part(keys, from, end);
         let value = line_value(text, next, key);
         let n = marked_or_flag(value, lows[i], highs[i], i == flag);
-        let refusal = marked_refusal(n);
-        if refusal != 0 {
-            return MarkedLines::Refused(value_fault(text, next, key, refusal));
+        let Ok(read) = n else {
+            return Err(value_fault(text, next, key, number_refusal(n)));
+        };
+        out[i] = read.number;
+        if read.suspect {
+            marks += mark;
         }
-        out[i] = number_or(n, 0);
-        marks += mark_or(n, mark);
         next += key.len() + value.len() + 1;
         from = end;
         mark *= 2;
-        i += 1;
     }
-    MarkedLines::Read { marks, next }
+    Ok(MarkedLines { marks, next })
+}
+
+// The same lines, first read as numbers alone, since marks are rare; where one of them is refused, all are read as numbers that may be marked.
+pub(crate) fn number_lines(
+    text: &[u8],
+    at: usize,
+    keys: &[u8],
+    lows: &[i64],
+    highs: &[i64],
+    flag: usize,
+    out: &mut [i64],
+) -> Result<MarkedLines, Fault>
+    requires { FewLines keys.now lows.now highs.now out.old }
+    ensures { MarksRead (fields_of flag 0 (keys_of keys.now) lows.now highs.now) text.now at out.new result }
+{
+    if let Ok(next) = read_lines(text, at, keys, lows, highs, out) {
+        return Ok(MarkedLines { marks: 0, next });
+    }
+    marked_lines(text, at, keys, lows, highs, flag, out)
 }

@@ -1,11 +1,11 @@
--- Internal to `curve_lines`: the lines of a curve text and its end, as how reading ended and the values where nothing was refused. No public result is stated
--- by it.
-use Rattle.std.specs.Prelude.{ℕ, ◌≡◌, List, ℤ}
-use Rattle.text_schema.specs.Schema.{read_fields}
-use Rattle.text_line.specs.declared.Lines.{Lines}
-use Rattle.text_line.specs.declared.Lines.TheVariants as lines
-use Rattle.curve_text.specs.CurveText.{curve_fields, end_of_lines}
+-- Internal to `curve_lines`: the values of the lines of a curve text, or what was refused of the lines or of the text's end. No public result is stated by it.
+use Rattle.std.specs.Prelude.{ℕ, List, ℤ, Result, Ok, Err}
+use Rattle.text_refusal.specs.declared.refusal.Fault.{Fault}
+use Rattle.curve_text.specs.CurveText.{curve_lines, end_of_lines}
 
-pub record CurveLines (text : List ℕ) (values : List ℤ) (ended : Lines) : Type 0 where
-  pub ends : ended ≡ end_of_lines text (read_fields curve_fields text 0).end
-  pub read : (stop : ℕ) → ended ≡ lines.Read stop → values ≡ (read_fields curve_fields text 0).values
+abbrev pub values_at_end : List ℤ → Result ℕ Fault → Result (List ℤ) Fault
+values_at_end values (Ok stop) = Ok values
+values_at_end values (Err found) = Err found
+
+abbrev pub line_values : List ℕ → Result (List ℤ) Fault
+line_values text = values_at_end (curve_lines text).values (end_of_lines text (curve_lines text).end)

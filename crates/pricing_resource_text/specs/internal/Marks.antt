@@ -1,32 +1,17 @@
 -- Internal: lines of numbers of which all but one may be marked suspect, read by keys and bounds.
-use Rattle.std.specs.Prelude.{ℕ, suc, ◌≤◌, ◌≡◌, Bool, cond, List, [], ◌∷◌, eqb, ℤ, length}
+use Rattle.std.specs.Prelude.{ℕ, suc, ◌≤◌, ◌≡◌, Bool, cond, List, [], ◌∷◌, eqb, ℤ, length, Result, Ok, Err}
 use Rattle.text_refusal.specs.declared.refusal.Fault.{Fault}
 use Rattle.text_line.specs.Field.{Field}
-use Rattle.text_line.specs.declared.Lines.TheVariants as lines
 use Rattle.text_number.specs.Number.{number_in}
-use Rattle.text_number.specs.Marked.{Marked, plain_number, marked_in, judged_marked, written_marked, numbers_of, marks_of}
-use Rattle.text_number.specs.declared.marked.MarkedNumber.{MarkedNumber}
-use Rattle.text_number.specs.declared.marked.MarkedNumber.TheVariants as marked-number
+use Rattle.text_number.specs.Marked.{plain_number, marked_in, judged_marked, written_marked, numbers_of, marks_of}
+use Rattle.text_number.specs.declared.marked.Marked.{Marked}
+use Rattle.text_number.specs.declared.NumberError.{NumberError}
 use Rattle.text_schema.specs.Schema.{read_fields, keys_of}
 use Rattle.pricing_resource_text.specs.declared.marks.MarkedLines.{MarkedLines}
-use Rattle.pricing_resource_text.specs.declared.marks.MarkedLines.TheVariants as marked-lines
 
 -- the value of a line: of a flag, which carries no mark, or of one that may be marked
-abbrev pub marked_or_flag : Bool → ℤ → ℤ → List ℕ → MarkedNumber
+abbrev pub marked_or_flag : Bool → ℤ → ℤ → List ℕ → Result Marked NumberError
 marked_or_flag flag low high value = cond flag (plain_number (number_in low high value)) (marked_in low high value)
-
--- a number that was taken, and 2 to its place where it is marked
-abbrev pub number_or : MarkedNumber → ℤ → ℤ
-number_or (marked-number.Plain z) other = z
-number_or (marked-number.Suspect z) other = z
-number_or marked-number.Outside other = other
-number_or marked-number.Malformed other = other
-
-abbrev pub mark_or : MarkedNumber → ℕ → ℕ
-mark_or (marked-number.Plain z) mark = 0
-mark_or (marked-number.Suspect z) mark = mark
-mark_or marked-number.Outside mark = 0
-mark_or marked-number.Malformed mark = 0
 
 -- the line at a place: a flag, or one that may be marked
 abbrev pub line_field : Bool → List ℕ → ℤ → ℤ → Field Marked
@@ -47,8 +32,8 @@ pub record FewLines (keys : List ℕ) (lows highs places : List ℤ) : Type 0 wh
   pub few : length places ≤ 8
 
 -- what reading them gives: the numbers in their places and which of them are marked, or the refused line
-pub record MarksRead (fields : List (Field Marked)) (text : List ℕ) (at : ℕ) (after : List ℤ) (ended : MarkedLines) : Type 0 where
+pub record MarksRead (fields : List (Field Marked)) (text : List ℕ) (at : ℕ) (after : List ℤ) (ended : Result MarkedLines Fault) : Type 0 where
   pub taken :
-      (marks next : ℕ) → ended ≡ marked-lines.Read marks next →
-      ((read_fields fields text at).end ≡ lines.Read next) × ((marks ≡ marks_of (read_fields fields text at).values) × (after ≡ numbers_of (read_fields fields text at).values))
-  pub refused : (found : Fault) → ended ≡ marked-lines.Refused found → (read_fields fields text at).end ≡ lines.Refused found
+      (found : MarkedLines) → ended ≡ Ok found →
+      ((read_fields fields text at).end ≡ Ok found.next) × ((found.marks ≡ marks_of (read_fields fields text at).values) × (after ≡ numbers_of (read_fields fields text at).values))
+  pub refused : (found : Fault) → ended ≡ Err found → (read_fields fields text at).end ≡ Err found

@@ -1,0 +1,23 @@
+use mathlib.Core.Path.{◌≡◌, refl}
+use Rattle.std.proofs.Common.{rules, Err}
+use Rattle.pricing_resource_text.specs.Resource.{controllable_of, controllable_fields}
+use Rattle.pricing_resource_text.proofs.Small.{controllable_small, numbers_small}
+use Rattle.pricing_resource_text.proofs.Lines.{controllable_few, controllable_is}
+use Rattle.pricing_resource_text.proofs.Marking.{read_as, made_read, made_refused}
+use Rattle.pricing_resource_text.proofs.kinds.controllable_at.Goals as goal
+
+pub number_lines-requires : goal.number_lines-requires
+number_lines-requires c = controllable_few refl refl
+
+pub returns-in_err-read : goal.returns-in_err-read
+returns-in_err-read c =
+    let told : c.from_residual.result ≡ Err c.in_err-read.field-0.0 = search rules in
+    rw told (made_refused controllable_of (read_as controllable_is c.number_lines.ensures) c.in_err-read.was)
+
+pub controllable_of-requires : goal.controllable_of-requires
+controllable_of-requires c =
+    let told = (read_as controllable_is c.number_lines.ensures).taken c.in_ok-read.read c.in_ok-read.was in
+    rw told.1.1 (numbers_small controllable_fields controllable_small c.args.text.now c.args.at)
+
+pub returns : goal.returns
+returns c = made_read controllable_of (read_as controllable_is c.number_lines.ensures) c.in_ok-read.was c.controllable_of.ensures

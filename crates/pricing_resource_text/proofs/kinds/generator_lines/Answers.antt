@@ -1,0 +1,23 @@
+use mathlib.Core.Path.{◌≡◌, refl}
+use Rattle.std.proofs.Common.{rules, Err}
+use Rattle.pricing_resource_text.specs.Resource.{generator_of, generator_fields}
+use Rattle.pricing_resource_text.proofs.Small.{generator_small, numbers_small}
+use Rattle.pricing_resource_text.proofs.Lines.{generator_few, generator_is}
+use Rattle.pricing_resource_text.proofs.Marking.{read_as, made_read, made_refused}
+use Rattle.pricing_resource_text.proofs.kinds.generator_lines.Goals as goal
+
+pub number_lines-requires : goal.number_lines-requires
+number_lines-requires c = generator_few refl refl
+
+pub returns-in_err-read : goal.returns-in_err-read
+returns-in_err-read c =
+    let told : c.from_residual.result ≡ Err c.in_err-read.field-0.0 = search rules in
+    rw told (made_refused (generator_of c.args.kind c.args.status) (read_as generator_is c.number_lines.ensures) c.in_err-read.was)
+
+pub generator_of-requires : goal.generator_of-requires
+generator_of-requires c =
+    let told = (read_as generator_is c.number_lines.ensures).taken c.in_ok-read.read c.in_ok-read.was in
+    rw told.1.1 (numbers_small generator_fields generator_small c.args.text.now c.args.at)
+
+pub returns : goal.returns
+returns c = made_read (generator_of c.args.kind c.args.status) (read_as generator_is c.number_lines.ensures) c.in_ok-read.was c.generator_of.ensures
