@@ -9,15 +9,12 @@ use borrow.Author.Tests.{ltb-true, ltb-false, leb-true, leb-false, eqb-true, eqb
 use lib.Dec.{ltb, leb, eqb}
 use lib.IntN.{ℤ, nat_abs}
 use lib.ListN.{length}
-use Rattle.text_line.specs.declared.Lines.{Lines}
-use Rattle.text_line.specs.declared.Lines.TheVariants as lines
+use Rattle.std.specs.Prelude.{Result, Ok, Err}
+use Rattle.text_refusal.specs.declared.refusal.Fault.{Fault}
+use Rattle.text_refusal.specs.Answer.{Answer}
 use Rattle.text_refusal.specs.declared.refusal.Refusal.{Refusal}
 use Rattle.curve_set.specs.Curves.{voll_in_range, floor_in_range, curves_in_range}
-use Rattle.text_refusal.specs.declared.answer.Answer.{Answer}
-use Rattle.text_refusal.specs.declared.answer.Answer.TheVariants as answer
 use Rattle.curve_set.specs.declared.CurveSet.{CurveSet}
-use Rattle.curve_set.specs.declared.Curves.{Curves}
-use Rattle.curve_text.specs.declared.WrittenCurves.{WrittenCurves}
 use Rattle.curve_text.specs.CurveText.{curve_lines, curve_text, read_curves, writing_curves, written_buffer, writing_answer, written_length}
 use Rattle.curve_text.specs.Length.{curves_length}
 use Rattle.curve_text.proofs.CurveCases as curve-cases
@@ -25,14 +22,12 @@ use Rattle.curve_text.proofs.Lengths as lengths
 use Rattle.curve_page.specs.Page.{writing_page, page_buffer}
 use Rattle.curve_page.proofs.PageCases as page-cases
 use Rattle.curve_hour.specs.Hour.{HourAnswer, hour_in, error_answer, own_lines, run_lines}
-use Rattle.curve_hour.specs.declared.read.ReadHour.{ReadHour}
-use Rattle.curve_hour.specs.declared.read.ReadHour.TheVariants as read-hour
+use Rattle.curve_hour.specs.declared.read.HourlyError.{HourlyError}
 use Rattle.curve_hour.proofs.HourCases as hour-cases
 use Rattle.curve_record.specs.Record.{group_at}
 use Rattle.curve_record.specs.Possible.{record_possible}
 use Rattle.curve_record.specs.declared.Record.{Record}
 use Rattle.curve_booking.specs.Booking.{kept, book_error, booked}
-use Rattle.curve_booking.specs.declared.Booking.{Booking}
 use Rattle.curve_booking.proofs.Booked.{answer_refused, answer_error, error_full, error_far, error_accepted, booked_impossible}
 use Rattle.curve_settling.specs.Settle.{spread_of, Faultless, settled}
 use Rattle.curve_settling.proofs.Settled.{settled_impossible, settled_voll, settled_floor, settled_few, settled_flat, settled_accepted}
@@ -85,7 +80,7 @@ module _ (text : List ℕ) where
   answer_is e found = rw e found
 
   module _ (short : length text ≤ 65536) where
-    hour_end : (at : ℕ) → (own_lines text).end ≡ lines.Read at → (next : ℕ) → (run_lines text at).end ≡ lines.Read next → (more : Bool) → ltb next (length text) ≡ more
+    hour_end : (at : ℕ) → (own_lines text).end ≡ Ok at → (next : ℕ) → (run_lines text at).end ≡ Ok next → (more : Bool) → ltb next (length text) ≡ more
         → HourCase text (error_answer (hour_in text))
     hour_end at own next runs true e =
         let follow = ltb-true next (length text) e in
@@ -94,13 +89,13 @@ module _ (text : List ℕ) where
         let over = ltb-false next (length text) e in
         answer_is (hour-cases.hour_whole text short at own next runs over) (hour_read short at own next runs over)
 
-    hour_runs : (at : ℕ) → (own_lines text).end ≡ lines.Read at → (ended : Lines) → (run_lines text at).end ≡ ended → HourCase text (error_answer (hour_in text))
-    hour_runs at own (lines.Refused found) e = answer_is (hour-cases.run_line_refused text short at own found e) (run_line_refused short at own found e)
-    hour_runs at own (lines.Read next) e = hour_end at own next e (ltb next (length text)) refl
+    hour_runs : (at : ℕ) → (own_lines text).end ≡ Ok at → (ended : Result ℕ Fault) → (run_lines text at).end ≡ ended → HourCase text (error_answer (hour_in text))
+    hour_runs at own (Err found) e = answer_is (hour-cases.run_line_refused text short at own found e) (run_line_refused short at own found e)
+    hour_runs at own (Ok next) e = hour_end at own next e (ltb next (length text)) refl
 
-    hour_lines : (ended : Lines) → (own_lines text).end ≡ ended → HourCase text (error_answer (hour_in text))
-    hour_lines (lines.Refused found) e = answer_is (hour-cases.hour_line_refused text short found e) (hour_line_refused short found e)
-    hour_lines (lines.Read at) e = hour_runs at e (run_lines text at).end refl
+    hour_lines : (ended : Result ℕ Fault) → (own_lines text).end ≡ ended → HourCase text (error_answer (hour_in text))
+    hour_lines (Err found) e = answer_is (hour-cases.hour_line_refused text short found e) (hour_line_refused short found e)
+    hour_lines (Ok at) e = hour_runs at e (run_lines text at).end refl
 
 hour_applies : (text : List ℕ) → HourCase text (error_answer (hour_in text))
 hour_applies text = go (ltb 65536 (length text)) refl
@@ -109,7 +104,7 @@ hour_applies text = go (ltb 65536 (length text)) refl
     go true e = let long = ltb-true 65536 (length text) e in answer_is text (hour-cases.hour_too_long_lem text long) (hour_too_long long)
     go false e = hour_lines text (ltb-false 65536 (length text) e) (own_lines text).end refl
 
-hour_only : (text : List ℕ) (other : ReadHour) → HourCase text other → other ≡ error_answer (hour_in text)
+hour_only : (text : List ℕ) (other : Result HourlyError Refusal) → HourCase text other → other ≡ error_answer (hour_in text)
 hour_only text other (hour_too_long long) = sym (ap error_answer (hour-cases.hour_too_long_lem text long))
 hour_only text other (hour_line_refused short found e) = sym (ap error_answer (hour-cases.hour_line_refused text short found e))
 hour_only text other (run_line_refused short at own found e) = sym (ap error_answer (hour-cases.run_line_refused text short at own found e))
@@ -122,38 +117,38 @@ reading_hours_is_refused_first text = record { applies = hour_applies text; only
 -- ---- booking
 
 module _ (history : Record) (text : List ℕ) (possible : record_possible history ≡ true) where
-  module _ (g : ℕ) (e : ℤ) (reading : HourCase text (read-hour.Error g e)) where
-    booked_is : booked history text ≡ book_error history g e
-    booked_is = answer_error history text g e possible (sym (hour_only text (read-hour.Error g e) reading))
+  module _ (hourly : HourlyError) (reading : HourCase text (Ok hourly)) where
+    booked_is : booked history text ≡ book_error history hourly.group hourly.error
+    booked_is = answer_error history text hourly possible (sym (hour_only text (Ok hourly) reading))
 
-    by_size : (group_at history g).count < 1000 → (near : Bool) → leb (nat_abs e) 20000000 ≡ near → BookingCase history text (booked history text)
+    by_size : (group_at history hourly.group).count < 1000 → (near : Bool) → leb (nat_abs hourly.error) 20000000 ≡ near → BookingCase history text (booked history text)
     by_size room true s =
-        let near = leb-true (nat_abs e) 20000000 s in
-        rw (booked_is, error_accepted history g e room near) (hour_booked possible g e reading room near)
+        let near = leb-true (nat_abs hourly.error) 20000000 s in
+        rw (booked_is, error_accepted history hourly.group hourly.error room near) (hour_booked possible hourly reading room near)
     by_size room false s =
-        let far = leb-false (nat_abs e) 20000000 s in
-        rw (booked_is, error_far history g e room far) (error_too_large possible g e reading room far)
+        let far = leb-false (nat_abs hourly.error) 20000000 s in
+        rw (booked_is, error_far history hourly.group hourly.error room far) (error_too_large possible hourly reading room far)
 
-    by_count : (full : Bool) → leb 1000 (group_at history g).count ≡ full → BookingCase history text (booked history text)
+    by_count : (full : Bool) → leb 1000 (group_at history hourly.group).count ≡ full → BookingCase history text (booked history text)
     by_count true c =
-        let full = leb-true 1000 (group_at history g).count c in
-        rw (booked_is, error_full history g e full) (group_full possible g e reading full)
-    by_count false c = by_size (leb-false 1000 (group_at history g).count c) (leb (nat_abs e) 20000000) refl
+        let full = leb-true 1000 (group_at history hourly.group).count c in
+        rw (booked_is, error_full history hourly.group hourly.error full) (group_full possible hourly reading full)
+    by_count false c = by_size (leb-false 1000 (group_at history hourly.group).count c) (leb (nat_abs hourly.error) 20000000) refl
 
-  refused_is : (found : Refusal) → HourCase text (read-hour.Refused found) → booked history text ≡ kept history found.number found.line
-  refused_is found reading = answer_refused history text found possible (sym (hour_only text (read-hour.Refused found) reading))
+  refused_is : (found : Refusal) → HourCase text (Err found) → booked history text ≡ kept found.number found.line
+  refused_is found reading = answer_refused history text found possible (sym (hour_only text (Err found) reading))
 
-  by_hour : (answer : ReadHour) → HourCase text answer → BookingCase history text (booked history text)
-  by_hour (read-hour.Refused found) reading = rw (refused_is found reading) (hour_is_refused possible (read-hour.Refused found) reading found refl)
-  by_hour (read-hour.Error g e) reading = by_count g e reading (leb 1000 (group_at history g).count) refl
+  by_hour : (answer : Result HourlyError Refusal) → HourCase text answer → BookingCase history text (booked history text)
+  by_hour (Err found) reading = rw (refused_is found reading) (hour_is_refused possible (Err found) reading found refl)
+  by_hour (Ok hourly) reading = by_count hourly reading (leb 1000 (group_at history hourly.group).count) refl
 
 -- an hour refused by its reader's answer
-refused_by : (history : Record) (text : List ℕ) → record_possible history ≡ true → (hour : ReadHour) → HourCase text hour → (found : Refusal) →
-    hour_answer hour ≡ answer.Refused found → booked history text ≡ kept history found.number found.line
-refused_by history text p (read-hour.Refused other) reading found e =
+refused_by : (history : Record) (text : List ℕ) → record_possible history ≡ true → (hour : Result HourlyError Refusal) → HourCase text hour → (found : Refusal) →
+    hour_answer hour ≡ Err found → booked history text ≡ kept found.number found.line
+refused_by history text p (Err other) reading found e =
     let same : other ≡ found = cc in
-    refused_is history text p other reading ∙ ap (λ (f : Refusal). kept history f.number f.line) same
-refused_by history text p (read-hour.Error group error) reading found e = let z : ◌≡◌ {A = ℕ} 0 1 = cc in absurd (omega arith)
+    refused_is history text p other reading ∙ ap (λ (f : Refusal). kept f.number f.line) same
+refused_by history text p (Ok hourly) reading found e = let z : ◌≡◌ {A = ℕ} 0 1 = cc in absurd (omega arith)
 
 booking_applies : (history : Record) (text : List ℕ) → BookingCase history text (booked history text)
 booking_applies history text = go (record_possible history) refl
@@ -162,12 +157,12 @@ booking_applies history text = go (record_possible history) refl
     go false e = rw (booked_impossible history text e) (record_impossible e)
     go true e = by_hour history text e (error_answer (hour_in text)) (hour_applies text)
 
-booking_only : (history : Record) (text : List ℕ) (other : Booking) → BookingCase history text other → other ≡ booked history text
+booking_only : (history : Record) (text : List ℕ) (other : Result Record Refusal) → BookingCase history text other → other ≡ booked history text
 booking_only history text other (record_impossible p) = sym (booked_impossible history text p)
 booking_only history text other (hour_is_refused p hour reading found e) = sym (refused_by history text p hour reading found e)
-booking_only history text other (group_full p g e reading full) = sym (booked_is history text p g e reading ∙ error_full history g e full)
-booking_only history text other (error_too_large p g e reading room far) = sym (booked_is history text p g e reading ∙ error_far history g e room far)
-booking_only history text other (hour_booked p g e reading room near) = sym (booked_is history text p g e reading ∙ error_accepted history g e room near)
+booking_only history text other (group_full p hourly reading full) = sym (booked_is history text p hourly reading ∙ error_full history hourly.group hourly.error full)
+booking_only history text other (error_too_large p hourly reading room far) = sym (booked_is history text p hourly reading ∙ error_far history hourly.group hourly.error room far)
+booking_only history text other (hour_booked p hourly reading room near) = sym (booked_is history text p hourly reading ∙ error_accepted history hourly.group hourly.error room near)
 
 pub booking_is_refused_first : BookingIsRefusedFirst
 booking_is_refused_first history text = record { applies = booking_applies history text; only = booking_only history text }
@@ -239,7 +234,7 @@ settling_applies history voll floor = go (record_possible history) refl
     go false e = rw (settled_impossible history voll floor e) (unsettled_record e)
     go true e = by_voll history voll floor e (voll_in_range voll) refl
 
-settling_only : (history : Record) (voll floor : ℤ) (other : Curves) → SettlingCase history voll floor other → other ≡ settled history voll floor
+settling_only : (history : Record) (voll floor : ℤ) (other : Result CurveSet Refusal) → SettlingCase history voll floor other → other ≡ settled history voll floor
 settling_only history voll floor other (unsettled_record p) = sym (settled_impossible history voll floor p)
 settling_only history voll floor other (voll_outside p v) = sym (settled_voll history voll floor p v)
 settling_only history voll floor other (floor_outside p v f) = sym (settled_floor history voll floor p v f)
@@ -255,7 +250,7 @@ settling_is_refused_first history voll floor = record { applies = settling_appli
 curves_apply : (text : List ℕ) → ReadingCurvesCase text (read_curves text)
 curves_apply text = by_length (ltb 4096 (length text)) refl
   where
-    by_end : length text ≤ 4096 → (next : ℕ) → (curve_lines text).end ≡ lines.Read next → (more : Bool) → ltb next (length text) ≡ more → ReadingCurvesCase text (read_curves text)
+    by_end : length text ≤ 4096 → (next : ℕ) → (curve_lines text).end ≡ Ok next → (more : Bool) → ltb next (length text) ≡ more → ReadingCurvesCase text (read_curves text)
     by_end short next e true m =
         let follow = ltb-true next (length text) m in
         rw (curve-cases.text_bytes_follow text short next e follow) (bytes_after_curves short next e follow)
@@ -263,15 +258,15 @@ curves_apply text = by_length (ltb 4096 (length text)) refl
         let over = ltb-false next (length text) m in
         rw (curve-cases.text_read text short next e over) (curves_read short next e over)
 
-    by_lines : length text ≤ 4096 → (ended : Lines) → (curve_lines text).end ≡ ended → ReadingCurvesCase text (read_curves text)
-    by_lines short (lines.Refused found) e = rw (curve-cases.text_line_refused text short found e) (curve_line_refused short found e)
-    by_lines short (lines.Read next) e = by_end short next e (ltb next (length text)) refl
+    by_lines : length text ≤ 4096 → (ended : Result ℕ Fault) → (curve_lines text).end ≡ ended → ReadingCurvesCase text (read_curves text)
+    by_lines short (Err found) e = rw (curve-cases.text_line_refused text short found e) (curve_line_refused short found e)
+    by_lines short (Ok next) e = by_end short next e (ltb next (length text)) refl
 
     by_length : (long : Bool) → ltb 4096 (length text) ≡ long → ReadingCurvesCase text (read_curves text)
     by_length true e = let long = ltb-true 4096 (length text) e in rw (curve-cases.text_too_long text long) (curves_too_long long)
     by_length false e = by_lines (ltb-false 4096 (length text) e) (curve_lines text).end refl
 
-curves_only : (text : List ℕ) (other : Curves) → ReadingCurvesCase text other → other ≡ read_curves text
+curves_only : (text : List ℕ) (other : Result CurveSet Refusal) → ReadingCurvesCase text other → other ≡ read_curves text
 curves_only text other (curves_too_long long) = sym (curve-cases.text_too_long text long)
 curves_only text other (curve_line_refused short found e) = sym (curve-cases.text_line_refused text short found e)
 curves_only text other (bytes_after_curves short next e more) = sym (curve-cases.text_bytes_follow text short next e more)
@@ -289,7 +284,7 @@ given curves buffer =
       buffer = written_buffer curves buffer;
     }
 
-abbrev written_as : WrittenCurves → List ℕ → Writing
+abbrev written_as : Result ℕ Refusal → List ℕ → Writing
 written_as found after = record { answer = writing_answer found; length = written_length found; buffer = after }
 
 writing_applies : (curves : CurveSet) (buffer : List ℕ) → WritingCurvesCase curves buffer (given curves buffer)
@@ -327,7 +322,7 @@ curves_length_is_refused_first curves = record { applies = by_range (curves_in_r
     by_range false e = rw (lengths.curves_length_refused curves e) (length_impossible e)
     by_range true e = rw (lengths.curves_length_told curves e) (length_known e)
 
-    only : (other : WrittenCurves) → CurvesLengthCase curves other → other ≡ curves_length curves
+    only : (other : Result ℕ Refusal) → CurvesLengthCase curves other → other ≡ curves_length curves
     only other (length_impossible out) = sym (lengths.curves_length_refused curves out)
     only other (length_known inside) = sym (lengths.curves_length_told curves inside)
 
@@ -367,10 +362,10 @@ pub writing_pages_is_refused_first : WritingPagesIsRefusedFirst
 writing_pages_is_refused_first curves buffer = record { applies = page_applies curves buffer; only = page_only curves buffer }
 
 -- a refused page leaves the buffer
-pub page_refused_leaves : (curves : CurveSet) (buffer : List ℕ) {found : Refusal} → writing_page curves buffer ≡ answer.Refused found → page_buffer curves buffer ≡ buffer
+pub page_refused_leaves : (curves : CurveSet) (buffer : List ℕ) {found : Refusal} → writing_page curves buffer ≡ Err found → page_buffer curves buffer ≡ buffer
 page_refused_leaves curves buffer {found} = go (page_applies curves buffer)
   where
-    go : {after : PageWriting} → WritingPageCase curves buffer after → after.answer ≡ answer.Refused found → after.buffer ≡ buffer
+    go : {after : PageWriting} → WritingPageCase curves buffer after → after.answer ≡ Err found → after.buffer ≡ buffer
     go (page_impossible out) e = refl
     go (page_buffer_short inside short) e = refl
     go (page_written inside room) e = let z : ◌≡◌ {A = ℕ} 0 1 = cc in absurd (omega arith)

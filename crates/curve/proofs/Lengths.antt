@@ -7,6 +7,8 @@ use mathlib.Core.Path.{◌≡◌, refl, ap, ◌∙◌}
 use lib.IntN.{pos, neg_ℤ}
 use lib.ListN.{length, drop}
 use lib.Seq.{take_at, drop_at}
+use Rattle.std.specs.Prelude.{Result, Ok}
+use Rattle.text_refusal.specs.declared.refusal.Refusal.{Refusal}
 use Rattle.text_number.specs.Number.{written_number}
 use Rattle.text_number.proofs.WrittenDigits.{count_one, digits_within_lem, digits_beyond, written_natural, written_below}
 use Rattle.curve_set.specs.Curves.{curves_in_range}
@@ -14,8 +16,6 @@ use Rattle.curve_set.proofs.InRange.{even_in_range}
 use Rattle.curve_text.specs.CurveText.{curve_text}
 use Rattle.curve_set.specs.declared.CurveSet.{CurveSet}
 use Rattle.curve_text.specs.Length.{curves_length}
-use Rattle.curve_text.specs.declared.WrittenCurves.{WrittenCurves}
-use Rattle.curve_text.specs.declared.WrittenCurves.TheVariants as written
 use Rattle.curve_text.proofs.CurveCases.{short_refused, short_stays, text_written, text_laid}
 use Rattle.curve_text.proofs.Lengths.{curves_length_told, even_counted, least_length, greatest_length}
 use Rattle.curve.specs.FirstRefusal as cases
@@ -27,10 +27,10 @@ record Told (curves : CurveSet) (told : ℕ) : Type 0 where
   inside : curves_in_range curves ≡ true
   exact : length (curve_text curves) ≡ told
 
-told_of : (curves : CurveSet) (told : ℕ) → curves_length curves ≡ written.Length told → Told curves told
+told_of : (curves : CurveSet) (told : ℕ) → curves_length curves ≡ Ok told → Told curves told
 told_of curves told e = go (curves_length_is_refused_first curves).applies e
   where
-    go : {found : WrittenCurves} → cases.CurvesLengthCase curves found → found ≡ written.Length told → Told curves told
+    go : {found : Result ℕ Refusal} → cases.CurvesLengthCase curves found → found ≡ Ok told → Told curves told
     go (cases.length_impossible out) e = let z : ◌≡◌ {A = ℕ} 0 1 = cc in absurd (omega arith)
     go (cases.length_known inside) e = record { inside = inside; exact = cc }
 
@@ -45,7 +45,7 @@ curve_text_has_the_told_length curves told e buffer =
       accepted = λ room.
           (let enough : length text ≤ length buffer = omega arith in
           let laid = text_laid curves buffer inside enough in (
-            text_written curves buffer inside enough ∙ ap written.Length exact,
+            text_written curves buffer inside enough ∙ ap (λ (n : ℕ). Ok n) exact,
             rw laid (take_at text (drop (0 + length text) buffer) told exact),
             rw laid (drop_at text (drop (0 + length text) buffer) told exact ∙ ap (λ (n : ℕ). drop n buffer) behind),
           ));
@@ -55,7 +55,7 @@ curve_text_has_the_told_length curves told e buffer =
 -- ---- the bounds, and a set for each
 
 -- of a length that was told
-pub told_bounded : (curves : CurveSet) (told : ℕ) → length curves.pairs ≡ 24 → curves_length curves ≡ written.Length told → (327 ≤ told) × (told ≤ 700)
+pub told_bounded : (curves : CurveSet) (told : ℕ) → length curves.pairs ≡ 24 → curves_length curves ≡ Ok told → (327 ≤ told) × (told ≤ 700)
 told_bounded curves told l e =
     let t = told_of curves told e in
     (omega (arith, t.exact, least_length curves l t.inside), omega (arith, t.exact, greatest_length curves l t.inside))
@@ -83,6 +83,6 @@ longest =
 pub curve_text_lengths_are_bounded : CurveTextLengthsAreBounded
 curve_text_lengths_are_bounded = (
   (λ curves l e. (least_length curves l e, greatest_length curves l e)),
-  curves_length_told shortest_curves (even_in_range (pos 0) (pos 0) (pos 0) (pos 1) refl refl refl) ∙ ap written.Length shortest,
-  curves_length_told longest_curves (even_in_range (pos 2000000) (pos 20000000) (neg_ℤ (pos 20000000)) (pos 20000000) refl refl refl) ∙ ap written.Length longest,
+  curves_length_told shortest_curves (even_in_range (pos 0) (pos 0) (pos 0) (pos 1) refl refl refl) ∙ ap (λ (n : ℕ). Ok n) shortest,
+  curves_length_told longest_curves (even_in_range (pos 2000000) (pos 20000000) (neg_ℤ (pos 20000000)) (pos 20000000) refl refl refl) ∙ ap (λ (n : ℕ). Ok n) longest,
 )

@@ -1,17 +1,15 @@
 -- What is promised of curves. Demand 1: each operation is refused by the first number in checking order, and by nothing else. Demand 2: one text for each
 -- curve set; read and settled sets are in range, and booked records are possible. For demand 3: lowered errors lower means, and probabilities never rise. And what
 -- document 02 says of the page (W-201) and of a curve text's length (W-205).
-use Rattle.std.specs.Prelude.{ℕ, ◌*◌, ◌≤◌, ◌<◌, ◌≡◌, true, List, ℤ, pos, neg_ℤ, ◌-ℤ◌, length, take, drop, ◌≤ℤ◌}
+use Rattle.std.specs.Prelude.{ℕ, ◌*◌, ◌≤◌, ◌<◌, ◌≡◌, true, List, ℤ, pos, neg_ℤ, ◌-ℤ◌, length, take, drop, ◌≤ℤ◌, Ok, Err}
 use Rattle.text_number.specs.Number.{written_number}
 use Rattle.text_writer.specs.Row.{padded_right}
 use Rattle.curve_group.specs.Season.{season_of, block_of, group_of, group_season}
 use Rattle.curve_set.specs.Curves.{curves_in_range, even_curves}
-use Rattle.text_refusal.specs.declared.answer.Answer.TheVariants as answer
 use Rattle.curve_set.specs.declared.Pair.{Pair}
 use Rattle.curve_set.specs.declared.CurveSet.{CurveSet}
 use Rattle.curve_text.specs.CurveText.{read_curves, curve_text, writing_curves, written_buffer, writing_answer, written_length}
 use Rattle.curve_text.specs.Length.{curves_length}
-use Rattle.curve_text.specs.declared.WrittenCurves.TheVariants as written-curves
 use Rattle.curve_hour.specs.Hour.{hour_in, error_answer}
 use Rattle.curve_record.specs.Record.{fresh, group_at}
 use Rattle.curve_record.specs.Possible.{mean_of, record_possible}
@@ -65,15 +63,15 @@ WritingPagesIsRefusedFirst =
 abbrev pub CurveTextIsReadBack : Type 0
 CurveTextIsReadBack =
     (curves : CurveSet) → length curves.pairs ≡ 24 → curves_in_range curves ≡ true →
-    read_curves (curve_text curves) ≡ record { set = curves; answer = answer.Accepted }
+    read_curves (curve_text curves) ≡ Ok curves
 
 -- read then write gives the same bytes
 abbrev pub CurveTextIsWrittenBack : Type 0
-CurveTextIsWrittenBack = (text : List ℕ) → (read_curves text).answer ≡ answer.Accepted → curve_text (read_curves text).set ≡ text
+CurveTextIsWrittenBack = (text : List ℕ) (curves : CurveSet) → read_curves text ≡ Ok curves → curve_text curves ≡ text
 
 -- a curve set that was read is in range
 abbrev pub ReadCurvesAreInRange : Type 0
-ReadCurvesAreInRange = (text : List ℕ) → (read_curves text).answer ≡ answer.Accepted → curves_in_range (read_curves text).set ≡ true
+ReadCurvesAreInRange = (text : List ℕ) (curves : CurveSet) → read_curves text ≡ Ok curves → curves_in_range curves ≡ true
 
 -- ---- the length of a curve text, told before it is written
 
@@ -83,15 +81,15 @@ pub record WrittenAsTold (curves : CurveSet) (told : ℕ) (buffer : List ℕ) : 
   -- a buffer of just that length is accepted, and so is a longer one: the text is its first bytes, and bytes after it stay
   pub accepted :
       told ≤ length buffer →
-      (writing_curves curves buffer ≡ written-curves.Length told)
+      (writing_curves curves buffer ≡ Ok told)
       × (take told (written_buffer curves buffer) ≡ curve_text curves)
       × (drop told (written_buffer curves buffer) ≡ drop told buffer)
   -- one byte less, or fewer, is refused by 14 and stands
   pub refused :
-      length buffer < told → (writing_curves curves buffer ≡ written-curves.Refused (record { number = 14; line = 0 })) × (written_buffer curves buffer ≡ buffer)
+      length buffer < told → (writing_curves curves buffer ≡ Err (record { number = 14; line = 0 })) × (written_buffer curves buffer ≡ buffer)
 
 abbrev pub CurveTextHasTheToldLength : Type 0
-CurveTextHasTheToldLength = (curves : CurveSet) (told : ℕ) → curves_length curves ≡ written-curves.Length told → (buffer : List ℕ) → WrittenAsTold curves told buffer
+CurveTextHasTheToldLength = (curves : CurveSet) (told : ℕ) → curves_length curves ≡ Ok told → (buffer : List ℕ) → WrittenAsTold curves told buffer
 
 -- a curve set whose text is shortest: each number has one digit
 abbrev pub shortest_curves : CurveSet
@@ -105,15 +103,15 @@ longest_curves = even_curves (pos 2000000) (pos 20000000) (neg_ℤ (pos 20000000
 abbrev pub CurveTextLengthsAreBounded : Type 0
 CurveTextLengthsAreBounded =
     ((curves : CurveSet) → length curves.pairs ≡ 24 → curves_in_range curves ≡ true → (327 ≤ length (curve_text curves)) × (length (curve_text curves) ≤ 700))
-    × (curves_length shortest_curves ≡ written-curves.Length 327)
-    × (curves_length longest_curves ≡ written-curves.Length 700)
+    × (curves_length shortest_curves ≡ Ok 327)
+    × (curves_length longest_curves ≡ Ok 700)
 
 -- ---- settling
 
 -- a settled curve set is in range
 abbrev pub SettledCurvesAreInRange : Type 0
 SettledCurvesAreInRange =
-    (history : Record) (voll floor : ℤ) → (settled history voll floor).answer ≡ answer.Accepted → curves_in_range (settled history voll floor).set ≡ true
+    (history : Record) (voll floor : ℤ) (curves : CurveSet) → settled history voll floor ≡ Ok curves → curves_in_range curves ≡ true
 
 -- ---- lists of bookings
 

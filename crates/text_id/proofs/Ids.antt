@@ -1,14 +1,13 @@
 -- Laws on ids: one byte on, and at the end.
-use Prim.Native.Nat.{ℕ, ◌+◌, ◌≤◌, ◌<◌}
-use native.Mathlib.Numerals.{add-one}
+use Prim.Native.Nat.{ℕ, ◌≤◌, ◌<◌}
 use native.Mathlib.Omega.{arith}
 use mathlib.Core.Bool.{Bool, true, false, ◌&&◌}
 use mathlib.Core.List.{List, [], ◌∷◌}
 use mathlib.Core.Path.{◌≡◌, refl, ap, sym, ◌∙◌}
-use lib.ListN.{length, drop, get_or, drop_of_length-le}
-use lib.Seq.{drop-cons}
+use lib.ListN.{length}
 use lib.Dec.{eqb, leb, ltb}
-use borrow.Author.Tests.{lt-ltb, le-ltb, le-leb, lt-leb, ltb-true, leb-true, ne_eqb}
+use borrow.Author.Tests.{ltb-true, leb-true, ne_eqb}
+use Rattle.std.specs.List.{list_all}
 use Rattle.text_refusal.proofs.Choices.{and_left, and_right}
 use Rattle.text_line.specs.Line.{OneLine, value_at, value_fault}
 use Rattle.text_line.specs.Field.{got, refused, next_at, field_at}
@@ -18,36 +17,11 @@ use Rattle.text_line.proofs.FieldTexts.{JudgedNumbered, FieldNumbered}
 use Rattle.text_line.specs.Judged.{good}
 use Rattle.text_id.specs.Id.{is_id_byte, all_id_bytes, is_id, judged_id, id_field}
 
-module _ (value : List ℕ) where
-  pub id_none : length value ≡ 0 → false ≡ is_id value
-  unfolding is_id
-  id_none h = rw (le-ltb 0 (length value) (omega arith))
-
-  pub id_long : 16 < length value → false ≡ is_id value
-  unfolding is_id
-  id_long h = rw (lt-ltb 0 (length value) (omega arith), lt-leb (length value) 16 h)
-
--- what is left to look at from a byte on, in a value of an id's length
-pub record IdFrom (value : List ℕ) (i : ℕ) : Type 0 where
-  pub within : i ≤ length value
-  pub rest : is_id value ≡ all_id_bytes (drop i value)
-
-pub id_start : (value : List ℕ) → 0 < length value → length value ≤ 16 → IdFrom value 0
-unfolding is_id
-id_start value h l = record { within = omega arith; rest = rw (lt-ltb 0 (length value) h, le-leb (length value) 16 l) }
-
-module _ {value : List ℕ} {i : ℕ} (from : IdFrom value i) where
-  pub id_over : length value ≤ i → true ≡ is_id value
-  unfolding all_id_bytes
-  id_over h = rw (from.rest, drop_of_length-le value {i = i} h)
-
-  pub id_other : i < length value → is_id_byte (get_or value i 0) ≡ false → false ≡ is_id value
-  unfolding all_id_bytes
-  id_other h e = rw (from.rest, drop-cons value i 0 h, e)
-
-  pub id_more : i < length value → is_id_byte (get_or value i 0) ≡ true → IdFrom value (i + 1)
-  unfolding all_id_bytes
-  id_more h e = record { within = omega arith; rest = rw (from.rest, add-one, drop-cons value i 0 h, e) }
+-- each byte is one of an id
+pub all_listed : (value : List ℕ) → all_id_bytes value ≡ list_all is_id_byte value
+unfolding all_id_bytes
+all_listed [] = refl
+all_listed (byte ∷ rest) = rw (all_listed rest)
 
 -- ---- a line that holds an id
 

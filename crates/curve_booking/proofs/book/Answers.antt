@@ -10,20 +10,21 @@ pub returns-then-not-record_possible : goal.returns-then-not-record_possible
 unfolding booked
 returns-then-not-record_possible c =
     let impossible : record_possible c.args.history ≡ false = search rules in
-    rw impossible c.kept.ensures
+    rw impossible
 
 pub book_error-requires-clause-group_bound : goal.book_error-requires-clause-group_bound
 book_error-requires-clause-group_bound c =
-    omega (arith, error_group_below c.args.text.now c.in-Error.group c.in-Error.error (sym c.read_hour-h.ensures ∙ c.in-Error.is))
+    omega (arith, error_group_below c.args.text.now c.in_ok-hour.hour (sym c.read_hour.ensures ∙ c.in_ok-hour.was))
 
-pub returns-in-Refused : goal.returns-in-Refused
-returns-in-Refused c =
+pub returns-in_err-hour : goal.returns-in_err-hour
+returns-in_err-hour c =
     let possible : record_possible c.args.history ≡ true = search rules in
-    sym (answer_refused c.args.history c.args.text.now c.in-Refused.found possible (sym c.read_hour-h.ensures ∙ c.in-Refused.is))
+    let refused = answer_refused c.args.history c.args.text.now _ possible (sym c.read_hour.ensures ∙ c.in_err-hour.was) in
+    search rules
 
-pub returns-in-Error : goal.returns-in-Error
-returns-in-Error c =
+pub returns : goal.returns
+returns c =
     let possible : record_possible c.args.history ≡ true = search rules in
-    let fits : SFits w64 c.in-Error.error = search rules in
+    let fits : SFits w64 c.in_ok-hour.hour.error = search rules in
     (rw (to_z-of_z fits) at c.book_error.ensures)
-    ∙ sym (answer_error c.args.history c.args.text.now c.in-Error.group c.in-Error.error possible (sym c.read_hour-h.ensures ∙ c.in-Error.is))
+    ∙ sym (answer_error c.args.history c.args.text.now c.in_ok-hour.hour possible (sym c.read_hour.ensures ∙ c.in_ok-hour.was))
