@@ -1,9 +1,8 @@
 // Cases held in one text, run one after the other. A case is a letter that says what it is read as, then the text, then the mark `|`,
-// which no text contains. Bytes after the last mark are no case.
+// which no text contains. Bytes after the last mark are no case; a mark with no letter before it is read as the letter b.
 use crate::case::{id_case, lines_case, number_case, word_case};
 use std::io;
 use std::io::Write;
-use text_line::piece::{part, piece_end};
 
 fn one_case(out: &mut impl Write, letter: u8, text: &[u8]) -> io::Result<()> {
     match letter {
@@ -27,14 +26,14 @@ fn one_case(out: &mut impl Write, letter: u8, text: &[u8]) -> io::Result<()> {
 }
 
 pub(crate) fn all_cases(out: &mut impl Write, cases: &[u8]) -> io::Result<()> {
-    let mut from: usize = 0;
-    while from < cases.len() {
-        let next = piece_end(cases, from, b'|');
-        if next <= from {
+    for case in cases.split_inclusive(|byte| *byte == b'|') {
+        let Some(marked) = case.strip_suffix(b"|") else {
             break;
+        };
+        match marked {
+            [letter, text @ ..] => one_case(out, *letter, text)?,
+            [] => lines_case(out, marked)?,
         }
-        one_case(out, cases[from], part(cases, from + 1, next - 1))?;
-        from = next;
     }
     Ok(())
 }
