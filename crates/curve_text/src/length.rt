@@ -1,5 +1,6 @@
 // The length of a curve set's text, before it is written.
-ghost use Rattle.std.specs.Prelude.{◌≡◌, length};
+ghost use Rattle.std.specs.Prelude.{◌≡◌, ◌≤◌, length};
+ghost use Rattle.text_writer.specs.internal.Counted.{number_bytes};
 ghost use Rattle.curve_text.specs.CurveText.{curve_text};
 ghost use Rattle.curve_text.specs.Length.{curves_length};
 
@@ -9,16 +10,25 @@ use curve_set::{CurveSet, curves_in_range};
 use text_refusal::refusal::Refusal;
 use text_writer::number_length;
 
+// How many bytes numbers have, one after the other.
+fn numbers_length(values: &[i64]) -> usize
+    requires { length values.now ≤ 50 }
+    ensures counted { result ≡ number_bytes values.now }
+    ensures few { result ≤ 1000 }
+{
+    let mut length: usize = 0;
+    for value in values {
+        length += number_length(*value);
+    }
+    length
+}
+
 // How many bytes a curve set's text has: the keys, byte 10 of each line, and the numbers.
 fn text_length(curves: CurveSet) -> usize
     ensures { result ≡ length (curve_text curves) }
 {
     let values = values_of(curves);
-    let mut length = KEYS.len() + values.len();
-    for value in &values {
-        length += number_length(*value);
-    }
-    length
+    KEYS.len() + values.len() + numbers_length(&values)
 }
 
 // The length of a curve set's text, or why it is not written.
@@ -28,5 +38,6 @@ pub fn curves_length(curves: CurveSet) -> Result<usize, Refusal>
     if !curves_in_range(curves) {
         return Err(Refusal { number: 1, line: 0 });
     }
-    Ok(text_length(curves))
+    let length = text_length(curves);
+    Ok(length)
 }

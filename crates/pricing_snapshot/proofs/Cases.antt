@@ -8,12 +8,11 @@ use borrow.Author.Tests.{lt-ltb, le-ltb, ltb-true, ltb-false, eqb-true}
 use lib.Dec.{eqb, ltb}
 use lib.IntN.{nat_abs}
 use lib.ListN.{length}
+use Rattle.std.specs.Prelude.{Result, Ok, Err}
 use Rattle.text_refusal.specs.Bytes.{bytes}
 use Rattle.text_refusal.specs.Refusal.{refusal_of}
 use Rattle.text_refusal.specs.declared.refusal.Fault.{Fault}
 use Rattle.text_refusal.specs.Refusal.{fault}
-use Rattle.text_line.specs.declared.Lines.{Lines}
-use Rattle.text_line.specs.declared.Lines.TheVariants as lines
 use Rattle.text_line.specs.Field.{LineAnswer, got, refused, field_at}
 use Rattle.text_schema.specs.Schema.{read_fields}
 use Rattle.text_id.specs.Id.{id_field}
@@ -54,7 +53,7 @@ snapshot_case text = go (ltb 1048576 (length text)) refl
 
     last :
         {found : Contents} {next : ℕ} → length text ≤ 1048576 → due_lines text ≡ got found next → (more : Bool) → ltb next (length text) ≡ more →
-        SnapshotCase text (after_last text found (cond more (lines.Refused (fault 9 next)) (lines.Read next)))
+        SnapshotCase text (after_last text found (cond more (Err (fault 9 next)) (Ok next)))
     last {found} {next} short due true e = bytes_after short due (ltb-true next (length text) e)
     last {found} {next} short due false e = marks short due (ltb-false next (length text) e) (eqb (suspect_line (resources_of found.entries)) 0) refl
 
@@ -153,10 +152,10 @@ first_faulty_line_is_refused text found e = header (read_fields header_fields te
         in_resources first (faulty_resource resource_at text (nat_abs h.count) [] next (is ∙ ap refused same))
 
     header :
-        (ended : Lines) → (read_fields header_fields text 0).end ≡ ended →
+        (ended : Result ℕ Fault) → (read_fields header_fields text 0).end ≡ ended →
         after_answer (of_lines header_of (read_fields header_fields text 0).values ended) (λ h next. after_header text h next) ≡ refused found → FaultyLine text found
-    header (lines.Refused other) is e = let same : other ≡ found = cc in in_header (is ∙ ap lines.Refused same)
-    header (lines.Read next) is e =
+    header (Err other) is e = let same : other ≡ found = cc in in_header (is ∙ ap Err same)
+    header (Ok next) is e =
         let h = header_of (read_fields header_fields text 0).values in
         resources (rw is) (resources_at resource_at (nat_abs h.count) [] text next) refl e
 

@@ -9,14 +9,13 @@ use lib.Dec.{eqb, lit<}
 use lib.IntN.{ℤ, pos, neg_ℤ}
 use lib.ListN.{length, replicate}
 use lib.Signed.{le_z, le_z_yes, ◌≤ℤ◌}
+use Rattle.std.specs.Prelude.{Ok}
 use Rattle.integer.proofs.Order.{le_z-true, le-le_z, ≤ℤ_trans}
 use Rattle.text_refusal.proofs.Choices.{and_left, and_right}
 use Rattle.text_number.specs.Number.{written_number}
 use Rattle.integer.specs.Range.{within}
-use Rattle.text_refusal.specs.Answer.{refusal}
+use Rattle.text_refusal.specs.Answer.{Answer, refusal}
 use Rattle.text_refusal.specs.Bytes.{bytes}
-use Rattle.text_refusal.specs.declared.answer.Answer.{Answer}
-use Rattle.text_refusal.specs.declared.answer.Answer.TheVariants as answer
 use Rattle.text_line.proofs.LineBytes.{one_line}
 use Rattle.text_line.specs.Field.{Field}
 use Rattle.text_number.specs.Field.{number_field}
@@ -42,7 +41,7 @@ header_lines_lem =
 
 -- the refusal of a line, 0 being none
 abbrev refused_at : ℕ → Answer
-refused_at line = cond (eqb line 0) answer.Accepted (refusal 7 line)
+refused_at line = cond (eqb line 0) (Ok tt) (refusal 7 line)
 
 abbrev field_of : HeaderLine → Field ℤ
 field_of due = number_field due.key due.low due.high
@@ -60,7 +59,7 @@ faults_refused (due ∷ lines) line (z ∷ values) h =
     go false e again =
         first_here line (checked_line (field_of due) z) (checked_lines (map field_of lines) values) (rw e) ∙ ap (λ (n : ℕ). refusal n line) e ∙ sym (rw (ne_eqb line 0 (λ z. omega arith)))
 
-pub header_refused : (h : Header) → first_refused 1 (checked_lines header_fields (header_values h)) ≡ cond (eqb (header_fault h) 0) answer.Accepted (refusal 7 (header_fault h))
+pub header_refused : (h : Header) → first_refused 1 (checked_lines header_fields (header_values h)) ≡ cond (eqb (header_fault h) 0) (Ok tt) (refusal 7 (header_fault h))
 unfolding header_fields
 header_refused h = rw (header_fault_is h) (faults_refused header_lines 1 (header_values h) (omega arith))
 

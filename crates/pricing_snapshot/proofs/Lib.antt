@@ -8,3 +8,4 @@ pub mod Snapshots
 pub mod HeaderLines
 pub mod Entries
 pub mod SuspectLine
+pub mod MapErr

@@ -6,12 +6,12 @@ use mathlib.Core.List.{List, [], ◌∷◌}
 use lib.Dec.{lit<}
 use lib.IntN.{ℤ, pos, neg_ℤ, nat_abs}
 use lib.ListN.{length, length-map}
+use Rattle.std.specs.Prelude.{Result, Ok, Err}
+use Rattle.text_refusal.specs.declared.refusal.Fault.{Fault}
 use Rattle.integer.proofs.Difference.{view, to_ℕ}
 use Rattle.text_refusal.specs.Bytes.{bytes}
 use Rattle.text_line.specs.Field.{LineAnswer, got}
 use Rattle.text_schema.specs.Schema.{read_fields}
-use Rattle.text_line.specs.declared.Lines.{Lines}
-use Rattle.text_line.specs.declared.Lines.TheVariants as lines
 use Rattle.pricing_snapshot.specs.Snapshot.{header_fields, header_of, Entry, new_id_at, with_entry, resources_at, Contents, after_header, due_lines, SnapshotAnswer, read, snapshot_in, resources_of}
 use Rattle.pricing_sums.specs.declared.header.Header.{Header}
 use Rattle.pricing_resource_text.specs.Resource.{after_answer, of_lines, lines_as, resource_at}
@@ -26,7 +26,7 @@ use Rattle.pricing_snapshot.proofs.Cases.{SnapshotCase, too_long, line_refused, 
 
 -- ---- the header
 
-pub header_read : (text : List ℕ) (at next : ℕ) → (read_fields header_fields text at).end ≡ lines.Read next → HeaderInRange (header_of (read_fields header_fields text at).values)
+pub header_read : (text : List ℕ) (at next : ℕ) → (read_fields header_fields text at).end ≡ Ok next → HeaderInRange (header_of (read_fields header_fields text at).values)
 unfolding header_fields
 header_read text at next e =
     record {
@@ -84,12 +84,12 @@ lines_read text {found} {next} e =
     rw (← same) (record { header = header_in (read_fields header_fields text 0).end refl f.given; resources = all })
   where
     header_in :
-        {h : Header} {after : ℕ} (e : Lines) → (read_fields header_fields text 0).end ≡ e →
+        {h : Header} {after : ℕ} (e : Result ℕ Fault) → (read_fields header_fields text 0).end ≡ e →
         of_lines header_of (read_fields header_fields text 0).values e ≡ got h after → HeaderInRange h
-    header_in {h} (lines.Read next) given p =
+    header_in {h} (Ok next) given p =
         let is : header_of (read_fields header_fields text 0).values ≡ h = cc (p) in
         rw (← is) (header_read text 0 next given)
-    header_in (lines.Refused found) given p = let z : ◌≡◌ {A = ℕ} 0 1 = cc in absurd (omega arith)
+    header_in (Err found) given p = let z : ◌≡◌ {A = ℕ} 0 1 = cc in absurd (omega arith)
 
 -- a snapshot that was read: its header is in range, and it has as many resources as `count` says, each in range
 pub snapshot_read : (text : List ℕ) {h : Header} {entries : List Entry} → snapshot_in text ≡ read h entries → SnapshotRead h entries

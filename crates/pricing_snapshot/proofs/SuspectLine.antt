@@ -7,10 +7,10 @@ use mathlib.Core.List.{List, [], ◌∷◌}
 use lib.Dec.{eqb}
 use lib.IntN.{nat_abs}
 use lib.ListN.{length}
+use Rattle.std.specs.Prelude.{Result, Ok, Err}
+use Rattle.text_refusal.specs.declared.refusal.Fault.{Fault}
 use Rattle.text_refusal.specs.Bytes.{bytes}
 use Rattle.text_line.specs.Field.{Field, LineAnswer, got, refused, field_at}
-use Rattle.text_line.specs.declared.Lines.{Lines}
-use Rattle.text_line.specs.declared.Lines.TheVariants as lines
 use Rattle.text_line.proofs.FieldTexts.{field_read}
 use Rattle.text_id.specs.Id.{id_field}
 use Rattle.text_schema.specs.Schema.{and_then, read_fields}
@@ -35,15 +35,15 @@ module _ (text : List ℕ) where
   field_onward field at e = let r = field_read field text at e in record { bytes_read = omega (arith, r.next_is, r.some_bytes); within = r.within }
 
   fields_onward :
-      {A : Type 0} (fields : List (Field A)) (at next : ℕ) → at ≤ length text → (read_fields fields text at).end ≡ lines.Read next → Onward text (length fields) at next
+      {A : Type 0} (fields : List (Field A)) (at next : ℕ) → at ≤ length text → (read_fields fields text at).end ≡ Ok next → Onward text (length fields) at next
   unfolding read_fields
   fields_onward [] at next h e = let same : at ≡ next = cc in record { bytes_read = omega arith; within = omega arith }
   fields_onward {A} (field ∷ fields) at next h e = go (field_at field text at) refl (λ at h. fields_onward fields at next h) e
     where
       go :
           (answer : LineAnswer A) → field_at field text at ≡ answer →
-          ((at : ℕ) → at ≤ length text → (read_fields fields text at).end ≡ lines.Read next → Onward text (length fields) at next) →
-          (and_then answer (λ next. read_fields fields text next)).end ≡ lines.Read next → Onward text (suc (length fields)) at next
+          ((at : ℕ) → at ≤ length text → (read_fields fields text at).end ≡ Ok next → Onward text (length fields) at next) →
+          (and_then answer (λ next. read_fields fields text next)).end ≡ Ok next → Onward text (suc (length fields)) at next
       go (got value after) given again e =
           let first = field_onward field at given in
           let others = again after first.within e in
@@ -55,9 +55,9 @@ module _ (text : List ℕ) where
       Onward text (length fields) at next
   lines_onward {A} make fields at {one} {next} h e = go (read_fields fields text at).end refl e
     where
-      go : (end : Lines) → (read_fields fields text at).end ≡ end → of_lines make (read_fields fields text at).values end ≡ got one next → Onward text (length fields) at next
-      go (lines.Read last) given p = let same : last ≡ next = cc in fields_onward fields at next h (given ∙ rw same)
-      go (lines.Refused found) given p = let z : ◌≡◌ {A = ℕ} 0 1 = cc in absurd (omega arith)
+      go : (end : Result ℕ Fault) → (read_fields fields text at).end ≡ end → of_lines make (read_fields fields text at).values end ≡ got one next → Onward text (length fields) at next
+      go (Ok last) given p = let same : last ≡ next = cc in fields_onward fields at next h (given ∙ rw same)
+      go (Err found) given p = let z : ◌≡◌ {A = ℕ} 0 1 = cc in absurd (omega arith)
 
   -- ---- a resource
 

@@ -4,7 +4,8 @@ use native.Mathlib.Omega.{arith}
 use mathlib.Core.Path.{◌≡◌, refl, ◌∙◌}
 use mathlib.Core.Bool.{Bool, true, false, cond}
 use mathlib.Core.List.{List, [], ◌∷◌}
-use borrow.Author.Tests.{eqb-true, eqb-false, ne_eqb}
+use borrow.Author.Tests.{eqb-false, ne_eqb}
+use Rattle.std.specs.Prelude.{Option, Some, None}
 use lib.Dec.{eqb}
 use Rattle.pricing_sums.specs.Sums.{plus}
 use Rattle.pricing_sums.specs.Part.{part_of, sums_of}
@@ -14,22 +15,6 @@ use Rattle.pricing_resource.specs.declared.Resource.{Resource}
 use Rattle.pricing_resource.proofs.Suspects.{suspect_none, suspect_more}
 use Rattle.pricing_snapshot.specs.internal.Tallied.{suspect_with, tally_with, tally_from}
 use Rattle.pricing_snapshot.specs.declared.resources.Tally.{Tally}
-
--- ---- the first line, with one resource more
-
-module _ (suspect lines : ℕ) (one : Resource) where
-  pub first_kept : suspect_place one ≡ 0 → suspect ≡ suspect_with suspect lines one
-  first_kept fine = rw fine (go (eqb suspect 0) refl)
-    where
-      go : (b : Bool) → eqb suspect 0 ≡ b → suspect ≡ cond b 0 suspect
-      go true e = eqb-true suspect 0 e
-      go false e = refl
-
-  pub first_stays : (suspect ≡ 0 → ⊥) → suspect ≡ suspect_with suspect lines one
-  first_stays found = rw (ne_eqb suspect 0 found)
-
-  pub first_here : (suspect_place one ≡ 0 → ⊥) → suspect ≡ 0 → lines + suspect_place one ≡ suspect_with suspect lines one
-  first_here marked none = rw (none, ne_eqb (suspect_place one) 0 marked)
 
 -- ---- all of them
 
@@ -50,28 +35,36 @@ unfolding tally_from tally_with
 tally_sums tally [] = rw (sums_none, plus_none tally.sums)
 tally_sums tally (one ∷ others) = tally_sums (tally_with tally one) others ∙ plus_assoc tally.sums (part_of one) (sums_of others) ∙ rw (sums_more one others)
 
+-- a line, 0 being none
+abbrev pub line_found : ℕ → Option ℕ
+line_found line = cond (eqb line 0) None (Some line)
+
+-- a line that was found, and otherwise a later one
+abbrev pub or_later : Option ℕ → Option ℕ → Option ℕ
+or_later (Some line) later = Some line
+or_later None later = later
+
 -- the first line of one resource and then of the others
 first_of :
-    (suspect place lines later : ℕ) →
-    cond (eqb (cond (eqb suspect 0) (cond (eqb place 0) 0 (lines + place)) suspect) 0) later (cond (eqb suspect 0) (cond (eqb place 0) 0 (lines + place)) suspect) ≡
-    cond (eqb suspect 0) (cond (eqb place 0) later (lines + place)) suspect
-first_of suspect place lines later = go (eqb suspect 0) refl (eqb place 0) refl
+    (suspect : Option ℕ) (lines later : ℕ) (one : Resource) →
+    or_later (suspect_with suspect lines one) (line_found later) ≡ or_later suspect (line_found (cond (eqb (suspect_place one) 0) later (lines + suspect_place one)))
+first_of (Some line) lines later one = refl
+first_of None lines later one = go (eqb (suspect_place one) 0) refl
   where
     go :
-        (a : Bool) → eqb suspect 0 ≡ a → (b : Bool) → eqb place 0 ≡ b →
-        cond (eqb (cond a (cond b 0 (lines + place)) suspect) 0) later (cond a (cond b 0 (lines + place)) suspect) ≡ cond a (cond b later (lines + place)) suspect
-    go true none true fine = refl
-    go true none false marked = rw (ne_eqb (lines + place) 0 (λ z. eqb-false place 0 marked (omega arith)))
-    go false found b p = rw found
+        (fine : Bool) → eqb (suspect_place one) 0 ≡ fine →
+        or_later (cond fine None (Some (lines + suspect_place one))) (line_found later) ≡ line_found (cond fine later (lines + suspect_place one))
+    go true e = refl
+    go false e = rw (ne_eqb (lines + suspect_place one) 0 (λ z. eqb-false (suspect_place one) 0 e (omega arith)))
 
-pub tally_suspect : (tally : Tally) (all : List Resource) → (tally_from tally all).suspect ≡ cond (eqb tally.suspect 0) (suspect_from tally.lines all) tally.suspect
+pub tally_suspect : (tally : Tally) (all : List Resource) → (tally_from tally all).suspect ≡ or_later tally.suspect (line_found (suspect_from tally.lines all))
 unfolding tally_from tally_with
-tally_suspect tally [] = rw (suspect_none tally.lines) (go (eqb tally.suspect 0) refl)
+tally_suspect tally [] = rw (suspect_none tally.lines) (go tally.suspect)
   where
-    go : (b : Bool) → eqb tally.suspect 0 ≡ b → tally.suspect ≡ cond b 0 tally.suspect
-    go true e = eqb-true tally.suspect 0 e
-    go false e = refl
+    go : (suspect : Option ℕ) → suspect ≡ or_later suspect None
+    go (Some line) = refl
+    go None = refl
 tally_suspect tally (one ∷ others) =
     tally_suspect (tally_with tally one) others
-    ∙ first_of tally.suspect (suspect_place one) tally.lines (suspect_from (tally.lines + resource_line_count one) others)
+    ∙ first_of tally.suspect tally.lines (suspect_from (tally.lines + resource_line_count one) others) one
     ∙ rw (suspect_more tally.lines one others)

@@ -1,10 +1,9 @@
 -- What is promised of reading a snapshot: demand 1 (document 01, "Turned back, in checking order").
-use Rattle.std.specs.Prelude.{ℕ, suc, ◌≤◌, ◌<◌, ◌≡◌, true, false, List, [], ◌∷◌, eqb, nat_abs, length}
+use Rattle.std.specs.Prelude.{ℕ, suc, ◌≤◌, ◌<◌, ◌≡◌, true, false, List, [], ◌∷◌, eqb, nat_abs, length, Result, Ok, Err}
 use Rattle.text_refusal.specs.Bytes.{bytes}
 use Rattle.text_refusal.specs.Refusal.{line_of}
 use Rattle.text_refusal.specs.declared.refusal.Fault.{Fault}
 use Rattle.text_refusal.specs.Refusal.{fault}
-use Rattle.text_line.specs.declared.Lines.TheVariants as lines
 use Rattle.text_line.specs.Field.{LineAnswer, got, refused, field_at}
 use Rattle.text_schema.specs.Schema.{read_fields}
 use Rattle.text_id.specs.Id.{id_field}
@@ -16,7 +15,7 @@ use Rattle.pricing_resource.specs.declared.Resource.{Resource}
 use Rattle.pricing_resource_text.specs.Resource.{lines_as, resource_at}
 use Rattle.pricing_snapshot.specs.Snapshot.{header_fields, header_of, new_id_at, resources_of, Contents, due_lines, snapshot_in, snapshot_sums, snapshot_number, snapshot_line}
 use Rattle.pricing_snapshot.specs.declared.Snapshot.{Snapshot}
-use Rattle.pricing_snapshot.specs.declared.Snapshot.TheVariants as snapshot
+use Rattle.text_refusal.specs.declared.refusal.Refusal.{Refusal}
 
 -- ---- the first faulty line
 
@@ -37,7 +36,7 @@ pub data FaultyResource (reader : List ℕ → ℕ → LineAnswer Resource) (tex
 
 -- of a snapshot: the header's lines come first
 pub data FaultyLine (text : List ℕ) : Fault → Type 0 where
-  in_header : {found : Fault} → (read_fields header_fields text 0).end ≡ lines.Refused found → FaultyLine text found
+  in_header : {found : Fault} → (read_fields header_fields text 0).end ≡ Err found → FaultyLine text found
   in_resources :
       {found : Fault} {h : Header} {next : ℕ} → lines_as header_of header_fields text 0 ≡ got h next →
       FaultyResource resource_at text (nat_abs h.count) [] next found → FaultyLine text found
@@ -48,7 +47,7 @@ FirstFaultyLineIsRefused = (text : List ℕ) (found : Fault) → due_lines text 
 -- ---- the refusals in checking order
 
 -- refused by a number at a line
-abbrev pub SnapshotRefusedBy : ℕ → ℕ → Snapshot → Type 0
+abbrev pub SnapshotRefusedBy : ℕ → ℕ → Result Snapshot Refusal → Type 0
 SnapshotRefusedBy number line answer = (snapshot_number answer ≡ number) × (snapshot_line answer ≡ line)
 
 -- the answer case by case; that the cases leave nothing out stands with pricing (`PricingIsRefusedFirst`)
@@ -72,7 +71,7 @@ pub record SnapshotInOrder (text : List ℕ) : Type 0 where
   pub accepted :
       (found : Contents) (next : ℕ) → length text ≤ 1048576 → due_lines text ≡ got found next → length text ≤ next →
       suspect_line (resources_of found.entries) ≡ 0 →
-      snapshot_sums (snapshot_in text) ≡ snapshot.Read found.header (sums_of (resources_of found.entries))
+      snapshot_sums (snapshot_in text) ≡ Ok (record { header = found.header; sums = sums_of (resources_of found.entries) })
 
 abbrev pub SnapshotIsRefusedFirst : Type 0
 SnapshotIsRefusedFirst = (text : List ℕ) → SnapshotInOrder text

@@ -1,5 +1,6 @@
 -- Document 01, "Snapshot to reserves": the snapshot text. Refusals 2, the lines with 3 to 8, 9; then 15 (document 02, W-206).
-use Rattle.std.specs.Prelude.{ℕ, zero, suc, cond, List, [], ◌∷◌, map, eqb, ltb, ℤ, nat_abs, length}
+use Rattle.text_refusal.specs.declared.refusal.Fault.{Fault}
+use Rattle.std.specs.Prelude.{ℕ, zero, suc, cond, List, [], ◌∷◌, map, eqb, ltb, ℤ, nat_abs, length, Result, Ok, Err}
 use Rattle.text_refusal.specs.Bytes.{bytes}
 use Rattle.text_refusal.specs.Refusal.{refusal_of}
 use Rattle.text_line.specs.Lines.{end_at}
@@ -9,8 +10,6 @@ use Rattle.text_number.specs.Field.{number_field}
 use Rattle.text_id.specs.Id.{id_field}
 use Rattle.text_id_table.specs.Ids.{stands_in}
 use Rattle.text_refusal.specs.declared.refusal.Refusal.{Refusal}
-use Rattle.text_line.specs.declared.Lines.{Lines}
-use Rattle.text_line.specs.declared.Lines.TheVariants as lines
 use Rattle.text_schema.specs.Schema.{value}
 use Rattle.pricing_sums.specs.Header.{HeaderLine, header_lines}
 use Rattle.pricing_sums.specs.declared.header.Header.{Header}
@@ -19,7 +18,6 @@ use Rattle.pricing_sums.specs.Part.{sums_of}
 use Rattle.pricing_resource.specs.Suspect.{suspect_line}
 use Rattle.pricing_resource.specs.declared.Resource.{Resource}
 use Rattle.pricing_snapshot.specs.declared.Snapshot.{Snapshot}
-use Rattle.pricing_snapshot.specs.declared.Snapshot.TheVariants as snapshot
 
 -- ---- the header
 
@@ -95,9 +93,9 @@ pub data SnapshotAnswer : Type 0 where
 abbrev pub unless_suspect : Contents → ℕ → SnapshotAnswer
 unless_suspect found line = cond (eqb line 0) (read found.header found.entries) (refused_by (record { number = 15; line = line }))
 
-abbrev pub after_last : List ℕ → Contents → Lines → SnapshotAnswer
-after_last text found (lines.Refused fault) = refused_by (refusal_of text fault)
-after_last text found (lines.Read stop) = unless_suspect found (suspect_line (resources_of found.entries))
+abbrev pub after_last : List ℕ → Contents → Result ℕ Fault → SnapshotAnswer
+after_last text found (Err fault) = refused_by (refusal_of text fault)
+after_last text found (Ok stop) = unless_suspect found (suspect_line (resources_of found.entries))
 
 -- 9 before that
 abbrev pub after_lines : List ℕ → LineAnswer Contents → SnapshotAnswer
@@ -109,15 +107,15 @@ unfoldable pub snapshot_in : List ℕ → SnapshotAnswer
 snapshot_in text = cond (ltb 1048576 (length text)) (refused_by (record { number = 2; line = 0 })) (after_lines text (due_lines text))
 
 -- the header and the sums of a snapshot
-abbrev pub snapshot_sums : SnapshotAnswer → Snapshot
-snapshot_sums (refused_by found) = snapshot.Refused found
-snapshot_sums (read h entries) = snapshot.Read h (sums_of (resources_of entries))
+abbrev pub snapshot_sums : SnapshotAnswer → Result Snapshot Refusal
+snapshot_sums (refused_by found) = Err found
+snapshot_sums (read h entries) = Ok (record { header = h; sums = sums_of (resources_of entries) })
 
 -- document 01's number and line for each case of a snapshot's answer: both 0 where nothing is refused
-abbrev pub snapshot_number : Snapshot → ℕ
-snapshot_number (snapshot.Refused found) = found.number
-snapshot_number (snapshot.Read h sums) = 0
+abbrev pub snapshot_number : Result Snapshot Refusal → ℕ
+snapshot_number (Err found) = found.number
+snapshot_number (Ok snapshot) = 0
 
-abbrev pub snapshot_line : Snapshot → ℕ
-snapshot_line (snapshot.Refused found) = found.line
-snapshot_line (snapshot.Read h sums) = 0
+abbrev pub snapshot_line : Result Snapshot Refusal → ℕ
+snapshot_line (Err found) = found.line
+snapshot_line (Ok snapshot) = 0

@@ -1,42 +1,46 @@
 // The header of a snapshot's text.
-ghost use Rattle.std.specs.Prelude.{◌≡◌, ℕ, pos, replicate};
-ghost use Rattle.text_schema.specs.Schema.{read_fields};
+ghost use Rattle.std.specs.Prelude.{◌≡◌};
+ghost use Rattle.pricing_resource_text.specs.Resource.{lines_as};
 ghost use Rattle.pricing_snapshot.specs.Snapshot.{header_fields, header_of};
+ghost use Rattle.pricing_snapshot.specs.internal.Heading.{header_answer};
 
 use pricing_sums::header::{HEADER_HIGHS, HEADER_LOWS, Header};
-use text_line::Lines;
+use text_refusal::refusal::Fault;
 use text_schema::read_lines;
 
+// A header read, and where its lines end.
+#[derive(Clone, Copy)]
+pub(crate) struct HeaderLines {
+    pub header: Header,
+    pub next: usize,
+}
+
 // The header by its values.
-pub(crate) fn header_of(v: [i64; 8]) -> Header
+fn header_of(v: [i64; 8]) -> Header
     ensures { result ≡ header_of v }
 {
+    let [month, hour, lambda, factor, prc, eea1, short, count] = v;
     Header {
-        month: v[0],
-        hour: v[1],
-        lambda: v[2],
-        factor: v[3],
-        prc: v[4],
-        eea1: v[5],
-        short: v[6],
-        count: v[7],
+        month,
+        hour,
+        lambda,
+        factor,
+        prc,
+        eea1,
+        short,
+        count,
     }
 }
 
-// The header's values and where its lines end, or the refused line.
-pub(crate) fn header_at(text: &[u8], v: &mut [i64; 8]) -> Lines
-    requires { v.old ≡ replicate 8 (pos 0) }
-    ensures fact_1 { result ≡ (read_fields header_fields text.now 0).end }
-    ensures fact_2 { ((next : ℕ) → result ≡ Lines.Read next → v.new ≡ (read_fields header_fields text.now 0).values) }
+// The header at the start of a text, or the refused line.
+pub(crate) fn header_at(text: &[u8]) -> Result<HeaderLines, Fault>
+    ensures { header_answer result ≡ lines_as header_of header_fields text.now 0 }
 {
-    let lows = HEADER_LOWS;
-    let highs = HEADER_HIGHS;
-    read_lines(
-        text,
-        0,
-        b"month=hour=lambda=factor=prc=eea1=short=count=",
-        &lows,
-        &highs,
-        v,
-    )
+    let mut v = [0i64; 8];
+    let keys = b"month=hour=lambda=factor=prc=eea1=short=count=";
+    let next = read_lines(text, 0, keys, &HEADER_LOWS, &HEADER_HIGHS, &mut v)?;
+    Ok(HeaderLines {
+        header: header_of(v),
+        next,
+    })
 }

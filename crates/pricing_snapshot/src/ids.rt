@@ -1,32 +1,24 @@
 // Whether an id stands above: a table keeps where each id of the text starts.
 ghost use Rattle.pricing_snapshot.specs.internal.Ids.{RoomLeft, IdKept};
 
-use text_id::{Id, id_of};
+use text_id::is_id;
 use text_id_table::slot_of;
 use text_line::line::{line_value, value_fault};
 use text_refusal::refusal::Fault;
 
-// A new id, and where the lines after it start; or the refused line.
-#[derive(Clone, Copy)]
-pub(crate) enum NewId {
-    Next(usize),
-    Refused(Fault),
-}
-
-// The id due at a position, put into the table, unless it stands above (8).
-pub(crate) fn new_id(text: &[u8], at: usize, starts: &mut [usize]) -> NewId
+// The id due at a position, put into the table, unless it stands above (8): where the lines after it start, or the refused line.
+pub(crate) fn new_id(text: &[u8], at: usize, starts: &mut [usize]) -> Result<usize, Fault>
     requires { RoomLeft text.now starts.old }
     ensures { IdKept text.now at starts.old starts.new result }
 {
     let value = line_value(text, at, b"id=");
-    let id = id_of(value);
-    let Id::Valid = id else {
-        return NewId::Refused(value_fault(text, at, b"id=", 6));
-    };
+    if !is_id(value) {
+        return Err(value_fault(text, at, b"id=", 6));
+    }
     let slot = slot_of(text, 10, starts, value);
     if 0 < starts[slot] {
-        return NewId::Refused(Fault { number: 8, at });
+        return Err(Fault { number: 8, at });
     }
     starts[slot] = at + 4;
-    NewId::Next(at + 3 + value.len() + 1)
+    Ok(at + 3 + value.len() + 1)
 }

@@ -1,36 +1,34 @@
 // The resources of a snapshot, one after the other: each id is new, each resource's part is added to the sums, and the first line is kept that a mark turns back.
-ghost use Rattle.std.specs.Prelude.{◌≡◌, List, [], ℕ, ◌≤◌};
+ghost use Rattle.std.specs.Prelude.{◌≡◌, [], ◌≤◌};
 ghost use Rattle.text_id_table.specs.internal.Kept.{IdTable, Room};
 ghost use Rattle.pricing_sums.specs.Sums.{plus};
-ghost use Rattle.text_line.specs.Field.{got};
 ghost use Rattle.pricing_sums.specs.internal.Range.{SumsWithin};
 ghost use Rattle.pricing_sums.specs.Part.{part_of};
-ghost use Rattle.pricing_resource_text.specs.Resource.{after_answer, resource_at};
+ghost use Rattle.pricing_resource_text.specs.Resource.{resource_at};
 ghost use Rattle.pricing_snapshot.specs.Snapshot.{resources_at};
-ghost use Rattle.pricing_snapshot.specs.internal.Ids.{id_answer};
 ghost use Rattle.pricing_snapshot.specs.internal.Tallied.{no_tally, suspect_with, tally_with, tallied, resources_answer};
 
-use crate::ids::{NewId, new_id};
+use crate::ids::new_id;
 use pricing_resource::Resource;
 use pricing_resource::suspect::{resource_line_count, suspect_place};
-use pricing_resource_text::{ResourceLines, resource_at};
+use pricing_resource_text::resource_at;
 use pricing_sums::Sums;
 use pricing_sums::part::part_of;
 use text_refusal::refusal::Fault;
 
-// The sums of the resources, how many lines the text has up to there, and the first line that a mark turns back; 0 where there is none.
+// The sums of the resources, how many lines the text has up to there, and the first line that a mark turns back, where there is one.
 #[derive(Clone, Copy)]
 pub struct Tally {
     pub sums: Sums,
     pub lines: usize,
-    pub suspect: usize,
+    pub suspect: Option<usize>,
 }
 
-// What the resources come to and where their lines end, or the refused line.
+// What the resources come to, and where their lines end.
 #[derive(Clone, Copy)]
-pub enum Resources {
-    Read { tally: Tally, next: usize },
-    Refused(Fault),
+pub struct Resources {
+    pub tally: Tally,
+    pub next: usize,
 }
 
 // The sums with one resource's part added.
@@ -50,62 +48,41 @@ fn plus(sums: Sums, part: Sums) -> Sums
 
 // The first line that a mark turns back, with one resource more after so many lines: a line that was found stays the first.
 #[tactic(auto, using(pricing_resource::proofs::Suspects::place_few))]
-fn suspect_with(suspect: usize, lines: usize, resource: Resource) -> usize
+fn suspect_with(suspect: Option<usize>, lines: usize, resource: Resource) -> Option<usize>
     requires { lines ≤ 36863 }
     ensures { result ≡ suspect_with suspect lines resource }
 {
-    let place = suspect_place(resource);
-    if place == 0 {
+    if suspect.is_some() {
         return suspect;
     }
-    if 0 < suspect {
-        return suspect;
+    match suspect_place(resource) {
+        0 => None,
+        place => Some(lines + place),
     }
-    lines + place
 }
 
 // The tally with one resource more.
+#[tactic(auto, unfolding(crate::specs::internal::Tallied::tally_with))]
 fn tally_with(tally: Tally, resource: Resource) -> Tally
     requires fact_1 { SumsWithin 4095 tally.sums }
     requires fact_2 { SumsWithin 1 (part_of resource) }
     requires fact_3 { tally.lines ≤ 36863 }
     ensures { result ≡ tally_with tally resource }
 {
-    let so_far = tally.sums;
-    let sums = plus(so_far, part_of(resource));
-    let suspect = suspect_with(tally.suspect, tally.lines, resource);
     Tally {
-        sums,
+        sums: plus(tally.sums, part_of(resource)),
         lines: tally.lines + resource_line_count(resource),
-        suspect,
+        suspect: suspect_with(tally.suspect, tally.lines, resource),
     }
 }
 
-// The resource whose id's line was read, taken into the tally; or the refused line.
-fn with_resource(text: &[u8], id: NewId, tally: Tally) -> Resources
-    requires fact_1 { SumsWithin 4095 tally.sums }
-    requires fact_2 { tally.lines ≤ 36863 }
-    ensures { (value : List ℕ) → resources_answer result ≡ after_answer (id_answer value id) (λ of after. after_answer (resource_at text.now after) (λ one next. got (tally_with tally one) next)) }
-{
-    match id {
-        NewId::Refused(fault) => return Resources::Refused(fault),
-        NewId::Next(after) => {
-            let r = resource_at(text, after);
-            match r {
-                ResourceLines::Refused(fault) => return Resources::Refused(fault),
-                ResourceLines::Read { resource, next } => {
-                    return Resources::Read {
-                        tally: tally_with(tally, resource),
-                        next,
-                    };
-                }
-            }
-        }
-    }
-}
-
-// The resources from a position on, their ids kept in a table that is empty.
-pub(crate) fn resources_at(text: &[u8], at: usize, count: usize, starts: &mut [usize]) -> Resources
+// The resources from a position on, their ids kept in a table that is empty; 8 lines stand before the first of them.
+pub(crate) fn resources_at(
+    text: &[u8],
+    at: usize,
+    count: usize,
+    starts: &mut [usize],
+) -> Result<Resources, Fault>
     requires fact_1 { IdTable 10 text.now starts.old [] }
     requires fact_2 { Room count starts.old }
     ensures { resources_answer result ≡ tallied no_tally (resources_at resource_at count [] text.now at) }
@@ -119,23 +96,14 @@ pub(crate) fn resources_at(text: &[u8], at: usize, count: usize, starts: &mut [u
             responsive: 0,
         },
         lines: 8,
-        suspect: 0,
+        suspect: None,
     };
     let mut next = at;
-    let mut left = count;
-    while 0 < left {
-        let id = new_id(text, next, starts);
-        let r = with_resource(text, id, tally);
-        let Resources::Read {
-            tally: more,
-            next: last,
-        } = r
-        else {
-            return r;
-        };
-        tally = more;
-        next = last;
-        left -= 1;
+    for _taken in 0..count {
+        let after = new_id(text, next, starts)?;
+        let read = resource_at(text, after)?;
+        tally = tally_with(tally, read.resource);
+        next = read.next;
     }
-    Resources::Read { tally, next }
+    Ok(Resources { tally, next })
 }

@@ -1,6 +1,7 @@
 -- Internal: what reading the resources gives to pricing, resource after resource: their sums, how many lines the text has up to there, and the first line that a mark
 -- turns back.
-use Rattle.std.specs.Prelude.{ℕ, ◌+◌, cond, List, [], ◌∷◌, eqb}
+use Rattle.std.specs.Prelude.{ℕ, ◌+◌, cond, List, [], ◌∷◌, eqb, Option, Some, None, Result, Ok, Err}
+use Rattle.text_refusal.specs.declared.refusal.Fault.{Fault}
 use Rattle.text_line.specs.Field.{LineAnswer, got, refused}
 use Rattle.pricing_sums.specs.Sums.{no_sums, plus}
 use Rattle.pricing_sums.specs.Part.{part_of}
@@ -9,19 +10,19 @@ use Rattle.pricing_resource.specs.declared.Resource.{Resource}
 use Rattle.pricing_snapshot.specs.Snapshot.{Entry, resources_of}
 use Rattle.pricing_snapshot.specs.declared.resources.Tally.{Tally}
 use Rattle.pricing_snapshot.specs.declared.resources.Resources.{Resources}
-use Rattle.pricing_snapshot.specs.declared.resources.Resources.TheVariants as resources
 
 -- before the first resource: the header has 8 lines
 abbrev pub no_tally : Tally
-no_tally = record { sums = no_sums; lines = 8; suspect = 0 }
+no_tally = record { sums = no_sums; lines = 8; suspect = None }
 
--- the line of a resource that turns the snapshot back, so many lines standing before it; 0 where it does not
-abbrev pub suspect_after : ℕ → Resource → ℕ
-suspect_after lines one = cond (eqb (suspect_place one) 0) 0 (lines + suspect_place one)
+-- the line of a resource that turns the snapshot back, so many lines standing before it
+abbrev pub suspect_after : ℕ → Resource → Option ℕ
+suspect_after lines one = cond (eqb (suspect_place one) 0) None (Some (lines + suspect_place one))
 
 -- the first such line, with one resource more: a line that was found stays the first
-abbrev pub suspect_with : ℕ → ℕ → Resource → ℕ
-suspect_with suspect lines one = cond (eqb suspect 0) (suspect_after lines one) suspect
+abbrev pub suspect_with : Option ℕ → ℕ → Resource → Option ℕ
+suspect_with (Some line) lines one = Some line
+suspect_with None lines one = suspect_after lines one
 
 -- with one resource more
 unfoldable pub tally_with : Tally → Resource → Tally
@@ -41,6 +42,6 @@ tallied tally (got entries next) = got (tally_from tally (resources_of entries))
 tallied tally (refused found) = refused found
 
 -- what an answer of the reader of the resources says
-abbrev pub resources_answer : Resources → LineAnswer Tally
-resources_answer (resources.Read tally next) = got tally next
-resources_answer (resources.Refused found) = refused found
+abbrev pub resources_answer : Result Resources Fault → LineAnswer Tally
+resources_answer (Ok read) = got read.tally read.next
+resources_answer (Err found) = refused found

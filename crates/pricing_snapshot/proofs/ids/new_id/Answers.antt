@@ -10,8 +10,8 @@ use Rattle.text_id_table.proofs.Table.{slot_within}
 use Rattle.pricing_snapshot.proofs.Taken.{taken_refused, taken_repeated, taken_new}
 use Rattle.pricing_snapshot.proofs.ids.new_id.Goals as goal
 
-pub returns-in_default : goal.returns-in_default
-returns-in_default c = taken_refused c.args.text.now c.args.at c.line_value-value.ensures c.id_of-id.ensures c.in_default.is c.value_fault.ensures
+pub returns-then-not-is_id : goal.returns-then-not-is_id
+returns-then-not-is_id c = taken_refused c.args.text.now c.args.at c.line_value-value.ensures c.is_id.ensures c.if-not-is_id.true c.value_fault.ensures
 
 pub offset_bounds-starts-slot : goal.offset_bounds-starts-slot
 offset_bounds-starts-slot c =
@@ -23,11 +23,11 @@ bounds-starts-slot c = slot_within c.requires.table c.requires.one c.line_value-
 
 pub returns-then-starts-slot-gt0 : goal.returns-then-starts-slot-gt0
 returns-then-starts-slot-gt0 c =
-    taken_repeated c.args.text.now c.args.at c.line_value-value.ensures c.id_of-id.ensures c.in-Valid.is c.slot_of-slot.ensures c.if-starts-slot-gt0.true
+    taken_repeated c.args.text.now c.args.at c.line_value-value.ensures c.is_id.ensures c.if-not-is_id.false c.slot_of-slot.ensures c.if-starts-slot-gt0.true
 
 pub overflow_add-starts : goal.overflow_add-starts
 overflow_add-starts c =
-    let within : next_at c.args.at (bytes "id=") c.line_value-value.result.now ≤ length c.args.text.now = id_within (bytes "id=") c.args.text.now c.args.at c.line_value-value.ensures c.id_of-id.ensures c.in-Valid.is in
+    let within : next_at c.args.at (bytes "id=") c.line_value-value.result.now ≤ length c.args.text.now = id_within (bytes "id=") c.args.text.now c.args.at c.line_value-value.ensures c.is_id.ensures c.if-not-is_id.false in
     omega arith
 
 pub offset_bounds-starts-slot-2 : goal.offset_bounds-starts-slot-2
@@ -40,19 +40,19 @@ bounds-starts-slot-2 c = slot_within c.requires.table c.requires.one c.line_valu
 
 pub overflow_add-result : goal.overflow_add-result
 overflow_add-result c =
-    let within : next_at c.args.at (bytes "id=") c.line_value-value.result.now ≤ length c.args.text.now = id_within (bytes "id=") c.args.text.now c.args.at c.line_value-value.ensures c.id_of-id.ensures c.in-Valid.is in
+    let within : next_at c.args.at (bytes "id=") c.line_value-value.result.now ≤ length c.args.text.now = id_within (bytes "id=") c.args.text.now c.args.at c.line_value-value.ensures c.is_id.ensures c.if-not-is_id.false in
     omega arith
 
 pub overflow_add-result-2 : goal.overflow_add-result-2
 overflow_add-result-2 c =
-    let within : next_at c.args.at (bytes "id=") c.line_value-value.result.now ≤ length c.args.text.now = id_within (bytes "id=") c.args.text.now c.args.at c.line_value-value.ensures c.id_of-id.ensures c.in-Valid.is in
+    let within : next_at c.args.at (bytes "id=") c.line_value-value.result.now ≤ length c.args.text.now = id_within (bytes "id=") c.args.text.now c.args.at c.line_value-value.ensures c.is_id.ensures c.if-not-is_id.false in
     omega arith
 
 pub overflow_add-result-3 : goal.overflow_add-result-3
 overflow_add-result-3 c =
-    let within : next_at c.args.at (bytes "id=") c.line_value-value.result.now ≤ length c.args.text.now = id_within (bytes "id=") c.args.text.now c.args.at c.line_value-value.ensures c.id_of-id.ensures c.in-Valid.is in
+    let within : next_at c.args.at (bytes "id=") c.line_value-value.result.now ≤ length c.args.text.now = id_within (bytes "id=") c.args.text.now c.args.at c.line_value-value.ensures c.is_id.ensures c.if-not-is_id.false in
     omega arith
 
 pub returns : goal.returns
 returns c =
-    taken_new c.args.text.now c.args.at c.line_value-value.ensures c.id_of-id.ensures c.in-Valid.is c.slot_of-slot.ensures c.if-starts-slot-gt0.false refl
+    taken_new c.args.text.now c.args.at c.line_value-value.ensures c.is_id.ensures c.if-not-is_id.false c.slot_of-slot.ensures c.if-starts-slot-gt0.false refl
