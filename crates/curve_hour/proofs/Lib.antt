@@ -1,5 +1,4 @@
 -- Laws that the proofs of several functions share, and that crates above cite.
-pub mod Mapped
 pub mod Values
 pub mod Runs
 pub mod Hours

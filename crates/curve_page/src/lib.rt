@@ -69,8 +69,8 @@ fn put_rows(buffer: &mut [u8], curves: CurveSet)
     requires fact_2 { page_length ≤ length buffer.old }
     ensures { buffer.new ≡ laid_at buffer.old 0 (page_of curves) }
 {
-    for (group, pair) in curves.pairs.iter().enumerate() {
-        put_row(buffer, group, *pair);
+    for group in 0..24 {
+        put_row(buffer, group, curves.pairs[group]);
     }
 }
 

@@ -1,5 +1,5 @@
 -- What a group that is not impossible (1) has: small numbers, and squares around any x that are not negative.
-use mathlib.Core.Path.{◌≡◌, refl, sym, ◌∙◌}
+use mathlib.Core.Path.{◌≡◌, refl, sym, ap, ◌∙◌}
 use mathlib.Core.Bool.{Bool, true, false, ◌&&◌, ◌||◌, or-true}
 use mathlib.Core.List.{List, [], ◌∷◌}
 use Prim.Native.Nat.{ℕ, zero, suc, ◌+◌, ◌*◌, ◌≤◌, ◌<◌}
@@ -10,6 +10,8 @@ use lib.Dec.{eqb, leb}
 use lib.IntN.{ℤ, pos, nat_abs, ◌+ℤ◌, ◌-ℤ◌, ◌*ℤ◌}
 use lib.ListN.{length, get_or, drop, drop_of_length-le}
 use lib.Seq.{drop-cons}
+use Rattle.std.specs.List.{list_all}
+use Rattle.std.proofs.lemmas.List.{ext_get_or}
 use lib.Signed.{le_z, ◌≤ℤ◌}
 use Rattle.integer.specs.Floor.{floor_div}
 use Rattle.integer.specs.Range.{within}
@@ -24,7 +26,7 @@ use Rattle.curve_record.specs.Record.{no_hours, group_at, with_group, fresh, all
 use Rattle.curve_record.specs.Possible.{mean_of, squares_around, not_negative, possible, all_possible, record_possible}
 use Rattle.curve_record.specs.Squares.{squares_near}
 use Rattle.curve_record.specs.internal.Small.{SmallGroup}
-use Rattle.curve_record.proofs.RecordGroups.{group_elsewhere, group_changed_or_kept, fresh_group, all_groups-length, all_groups_at}
+use Rattle.curve_record.proofs.RecordGroups.{group_held, group_elsewhere, group_changed_or_kept, fresh_group, all_groups-length, all_groups_at}
 
 -- a group whose count, sum and squares are within their bounds
 pub record GroupBounds (g : Group) : Type 0 where
@@ -211,3 +213,17 @@ possible-with_group history g changed e new = possible_all (with_group history g
 
 pub fresh-possible : record_possible fresh ≡ true
 fresh-possible = possible_all fresh (λ g h. rw (fresh_group g) none_possible)
+
+-- the groups that a record holds decide
+list_all_possible : (groups : List Group) → list_all possible groups ≡ all_possible groups
+unfolding all_possible
+list_all_possible [] = refl
+list_all_possible (g ∷ groups) = ap (λ (rest : Bool). possible g && rest) (list_all_possible groups)
+
+pub record_possible_held : (history : Record) → length history.groups ≡ 24 → list_all possible history.groups ≡ record_possible history
+unfolding record_possible
+record_possible_held history size = list_all_possible history.groups
+    ∙ ap all_possible (ext_get_or no_hours history.groups (all_groups history) (size ∙ sym (all_groups-length history)) same)
+  where
+    same : (g : ℕ) → g < length history.groups → get_or history.groups g no_hours ≡ get_or (all_groups history) g no_hours
+    same g h = rw (group_held history g) at (sym (all_groups_at history g (omega arith)))

@@ -21,6 +21,7 @@ pub struct Record {
 }
 
 // A record of no hours.
+#[tactic(auto, unfolding(crate::specs::Record::fresh))]
 pub fn fresh() -> Record
     ensures { result ≡ fresh }
 {

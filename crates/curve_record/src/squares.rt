@@ -21,9 +21,9 @@ pub(crate) fn squares_around(g: Group, x: i64) -> i64
 pub fn squares_near(g: Group, x: i64) -> i64
     ensures { result ≡ squares_near g x }
 {
-    let few = (g.count <= 1000) & (magnitude(g.sum) <= 20000000000);
-    let small = (magnitude(g.squares) <= 400000000000000000) & (magnitude(x) <= 20000001);
-    if !(few & small) {
+    let few = g.count <= 1000 && magnitude(g.sum) <= 20000000000;
+    let small = magnitude(g.squares) <= 400000000000000000 && magnitude(x) <= 20000001;
+    if !(few && small) {
         return 0;
     }
     squares_around(g, x)

@@ -1,5 +1,4 @@
 -- Laws that the functions and crates above cite.
-pub mod MapErr
 pub mod CurveText
 pub mod CurveCases
 pub mod CurveFields

@@ -1,5 +1,5 @@
 -- Document 01, "The two prices".
-use Rattle.std.specs.Prelude.{ℕ, ◌+◌, ◌*◌, ◌/◌, List, [], ◌∷◌, eqb, ℤ, pos, nat_abs, ◌-ℤ◌, get_or, cond}
+use Rattle.std.specs.Prelude.{ℕ, ◌+◌, ◌*◌, ◌/◌, List, [], ◌∷◌, eqb, ℤ, pos, nat_abs, ◌-ℤ◌, get_or, cond, Result, Ok, Err}
 use Rattle.integer.specs.Order.{max_ℤ}
 use Rattle.curve_group.specs.Season.{group_of}
 use Rattle.curve_set.specs.Curves.{curves_in_range}
@@ -12,8 +12,7 @@ use Rattle.pricing_adder.specs.Reserve.{online_reserve, total_reserve}
 use Rattle.pricing_sums.specs.declared.Sums.{Sums}
 use Rattle.pricing_sums.specs.declared.header.Header.{Header}
 use Rattle.pricing_adder.specs.declared.price.Prices.{Prices}
-use Rattle.pricing_adder.specs.declared.price.Pricing.{Pricing}
-use Rattle.pricing_adder.specs.declared.price.Pricing.TheVariants as pricing
+use Rattle.text_refusal.specs.declared.refusal.Refusal.{Refusal}
 
 -- the mean and the spread of the header's group
 abbrev pub pair_for : CurveSet → Header → Pair
@@ -53,27 +52,31 @@ prices_of curves h s =
 abbrev pub price_values : Prices → List ℤ
 price_values p = p.rs ∷ p.rsns ∷ pos p.pis ∷ pos p.pins ∷ pos p.online ∷ pos p.offline ∷ []
 
+-- prices, or a refusal
+abbrev pub Pricing : Type 0
+Pricing = Result Prices Refusal
+
 -- document 01's number and line for each case of a pricing, both 0 where nothing is refused, and its six numbers, none where it is refused
 abbrev pub pricing_number : Pricing → ℕ
-pricing_number (pricing.Priced p) = 0
-pricing_number (pricing.Refused found) = found.number
+pricing_number (Ok p) = 0
+pricing_number (Err found) = found.number
 
 abbrev pub pricing_line : Pricing → ℕ
-pricing_line (pricing.Priced p) = 0
-pricing_line (pricing.Refused found) = found.line
+pricing_line (Ok p) = 0
+pricing_line (Err found) = found.line
 
 abbrev pub pricing_values : Pricing → List ℤ
-pricing_values (pricing.Priced p) = price_values p
-pricing_values (pricing.Refused found) = []
+pricing_values (Ok p) = price_values p
+pricing_values (Err found) = []
 
 abbrev pub refused_pricing : ℕ → ℕ → Pricing
-refused_pricing number line = pricing.Refused (record { number = number; line = line })
+refused_pricing number line = Err (record { number = number; line = line })
 
 -- pricing from sums: 1 for an impossible curve set, then for impossible sums, then 7 for a header value at its line
 unfoldable pub sums_priced : CurveSet → Header → Sums → Pricing
 sums_priced curves h s =
     cond (curves_in_range curves)
     (cond (sums_possible s)
-    (cond (eqb (header_fault h) 0) (pricing.Priced (prices_of curves h s)) (refused_pricing 7 (header_fault h)))
+    (cond (eqb (header_fault h) 0) (Ok (prices_of curves h s)) (refused_pricing 7 (header_fault h)))
     (refused_pricing 1 0))
     (refused_pricing 1 0)

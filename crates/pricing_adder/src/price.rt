@@ -26,12 +26,6 @@ pub struct Prices {
     pub offline: u32,
 }
 
-#[derive(Clone, Copy)]
-pub enum Pricing {
-    Priced(Prices),
-    Refused(Refusal),
-}
-
 // The six numbers of a pricing, in the order in which they are printed.
 pub fn price_values(p: Prices) -> [i64; 6]
     ensures { result ≡ price_values p }
@@ -93,16 +87,15 @@ fn both_prices(curves: CurveSet, header: Header, sums: Sums) -> Prices
 
 // The prices of sums and header numbers, which may be any: curves and sums are refused as impossible by 1, a header number out of its range by 7 at its line.
 #[tactic(auto, unfolding(crate::specs::Price::sums_priced))]
-pub fn price_sums(curves: CurveSet, header: Header, sums: Sums) -> Pricing
+pub fn price_sums(curves: CurveSet, header: Header, sums: Sums) -> Result<Prices, Refusal>
     ensures { result ≡ sums_priced curves header sums }
 {
-    let possible = curves_in_range(curves) & sums_possible(sums);
-    if !possible {
-        return Pricing::Refused(Refusal { number: 1, line: 0 });
+    if !(curves_in_range(curves) && sums_possible(sums)) {
+        return Err(Refusal { number: 1, line: 0 });
     }
     let line = header_fault(header);
     if line != 0 {
-        return Pricing::Refused(Refusal { number: 7, line });
+        return Err(Refusal { number: 7, line });
     }
-    Pricing::Priced(both_prices(curves, header, sums))
+    Ok(both_prices(curves, header, sums))
 }

@@ -1,15 +1,18 @@
 -- What the test of the header's numbers tells, and what it asks.
-use Prim.Native.Nat.{ℕ, suc, ◌≤◌}
+use Prim.Native.Nat.{ℕ, suc, ◌≤◌, ◌<◌}
 use mathlib.Core.Path.{◌≡◌, refl}
 use mathlib.Core.Bool.{Bool, true, false, cond}
 use native.Mathlib.Omega.{arith}
 use mathlib.Core.List.{List, [], ◌∷◌}
 use lib.IntN.{ℤ, pos, neg_ℤ, nat_abs}
+use lib.ListN.{length, get_or, drop, drop_of_length-le}
+use lib.Seq.{drop-cons}
 use lib.Signed.{◌≤ℤ◌}
+use Rattle.std.proofs.lemmas.List.{get_or-map}
 use Rattle.integer.specs.Range.{within}
 use Rattle.integer.proofs.Ranges.{within_low, within_bound, between_within}
 use Rattle.pricing_resource.specs.internal.Range.{Between}
-use Rattle.pricing_sums.specs.Header.{HeaderLine, header_lines, header_values, fault_from, header_fault}
+use Rattle.pricing_sums.specs.Header.{HeaderLine, header_lines, low_at, high_at, header_values, fault_from, header_fault}
 use Rattle.pricing_sums.specs.declared.header.Header.{Header}
 
 -- each number within its range
@@ -96,3 +99,23 @@ module _ (line : ℕ) (due : HeaderLine) (lines : List HeaderLine) where
   pub fault_first : (z : ℤ) (values : List ℤ) → fault_from line (due ∷ lines) (z ∷ values) ≡ cond (within due.low due.high z) (fault_from (suc line) lines values) line
   unfolding fault_from
   fault_first z values = refl
+
+-- the number at a place decides first, by what stands at the place
+pub fault_step : (line place : ℕ) (values : List ℤ) → place < 8 → length values ≡ 8 →
+    fault_from line (drop place header_lines) (drop place values)
+    ≡ cond (within (low_at place) (high_at place) (get_or values place (pos 0))) (fault_from (suc line) (drop (suc place) header_lines) (drop (suc place) values)) line
+fault_step line place values h size =
+    let inside : place < length values = omega arith in
+    rw (
+      drop-cons header_lines place no_line h,
+      drop-cons values place (pos 0) inside,
+      get_or-map (λ (due : HeaderLine). due.low) header_lines place no_line (pos 0) h,
+      get_or-map (λ (due : HeaderLine). due.high) header_lines place no_line (pos 0) h,
+    ) (fault_first line (get_or header_lines place no_line) (drop (suc place) header_lines) (get_or values place (pos 0)) (drop (suc place) values))
+  where
+    no_line : HeaderLine
+    no_line = record { key = []; low = pos 0; high = pos 0 }
+
+-- past the last place there is none
+pub fault_end : (line place : ℕ) (values : List ℤ) → 8 ≤ place → fault_from line (drop place header_lines) (drop place values) ≡ 0
+fault_end line place values h = rw (drop_of_length-le header_lines h) (fault_none line (drop place values))

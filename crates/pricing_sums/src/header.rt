@@ -1,7 +1,6 @@
 // The numbers of a snapshot's header, and their ranges.
-ghost use Rattle.std.specs.Prelude.{◌≡◌, cond, ◌+◌, ◌<◌};
-ghost use Rattle.integer.specs.Range.{within};
-ghost use Rattle.pricing_sums.specs.Header.{low_at, high_at, header_fault};
+ghost use Rattle.std.specs.Prelude.{◌≡◌};
+ghost use Rattle.pricing_sums.specs.Header.{header_values, header_fault};
 
 use integer::range::is_within;
 
@@ -29,30 +28,26 @@ pub const HEADER_HIGHS: [i64; 8] = [
     12, 23, 2000000, 10000, 200000000, 200000000, 200000000, 4096,
 ];
 
-// The line of the number at a place where it is out of its range, and otherwise that of a later one.
-fn fault_at(place: usize, z: i64, later: usize) -> usize
-    requires { place < 8 }
-    ensures { result ≡ cond (within (low_at place) (high_at place) z) later (place + 1) }
+// A header's numbers in the order of its lines.
+fn header_values(h: Header) -> [i64; 8]
+    ensures { result ≡ header_values h }
 {
-    let lows = HEADER_LOWS;
-    let highs = HEADER_HIGHS;
-    if is_within(z, lows[place], highs[place]) {
-        later
-    } else {
-        place + 1
-    }
+    [
+        h.month, h.hour, h.lambda, h.factor, h.prc, h.eea1, h.short, h.count,
+    ]
 }
 
 // The line of the first header number out of its range, or 0.
 pub fn header_fault(header: Header) -> usize
     ensures { result ≡ header_fault header }
 {
-    let count = fault_at(7, header.count, 0);
-    let short = fault_at(6, header.short, count);
-    let eea1 = fault_at(5, header.eea1, short);
-    let prc = fault_at(4, header.prc, eea1);
-    let factor = fault_at(3, header.factor, prc);
-    let lambda = fault_at(2, header.lambda, factor);
-    let hour = fault_at(1, header.hour, lambda);
-    fault_at(0, header.month, hour)
+    let lows = HEADER_LOWS;
+    let highs = HEADER_HIGHS;
+    let values = header_values(header);
+    for place in 0..8 {
+        if !is_within(values[place], lows[place], highs[place]) {
+            return place + 1;
+        }
+    }
+    0
 }

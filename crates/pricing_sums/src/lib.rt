@@ -24,7 +24,17 @@ pub struct Sums {
     pub responsive: i64,
 }
 
+// What no resources add up to.
+pub const NO_SUMS: Sums = Sums {
+    generation: 0,
+    controllable: 0,
+    offline: 0,
+    validated: 0,
+    responsive: 0,
+};
+
 // Whether 4096 resources can add up to these sums.
+#[tactic(auto, using(std::proofs::lemmas::Int::ints), unfolding(crate::specs::Sums::sums_possible))]
 pub fn sums_possible(sums: Sums) -> bool
     ensures { result ≡ sums_possible sums }
 {
@@ -33,5 +43,6 @@ pub fn sums_possible(sums: Sums) -> bool
     let offline = is_within(sums.offline, 0, 8192000000);
     let validated = is_within(sums.validated, -8192000000, 8192000000);
     let responsive = is_within(sums.responsive, 0, 8192000000);
-    generation & (controllable & (offline & (validated & responsive)))
+    // Grouped as the definition groups them, so that the check finds the proof.
+    generation && (controllable && (offline && (validated && responsive)))
 }

@@ -2,60 +2,47 @@
 ghost use Rattle.std.specs.Prelude.{◌≡◌, ◌≤◌, nat_abs, ◌-ℤ◌};
 ghost use Rattle.pricing_sums.specs.Part.{part_of};
 
-use crate::Sums;
+use crate::{NO_SUMS, Sums};
 use pricing_resource::offline::counted_offline;
 use pricing_resource::online::counted_online;
 use pricing_resource::{Controllable, Generator, Load, Resource};
 
 // A number less two others.
+#[tactic(auto, using(std::proofs::lemmas::Int::ints))]
 fn less_both(x: i32, y: i32, z: i32) -> i64
     ensures { (result ≡ x -ℤ y -ℤ z) × (nat_abs result ≤ 6442450944) }
 {
     x as i64 - y as i64 - z as i64
 }
 
+#[tactic(auto, using(std::proofs::lemmas::Int::ints), unfolding(crate::specs::Part::part_of))]
 fn generator_part(g: Generator) -> Sums
     ensures { result ≡ part_of (Resource.Generator g) }
 {
     if counted_online(g) {
         return Sums {
             generation: less_both(g.hsl, g.base, g.nonspin),
-            controllable: 0,
             offline: g.nonspin as i64,
-            validated: 0,
-            responsive: 0,
+            ..NO_SUMS
         };
     }
-    let kind = g.kind;
-    let status = g.status;
-    if counted_offline(kind, status, g.cold30) {
+    if counted_offline(g.kind, g.status, g.cold30) {
         return Sums {
-            generation: 0,
-            controllable: 0,
             offline: g.hsl as i64,
-            validated: 0,
-            responsive: 0,
+            ..NO_SUMS
         };
     }
-    Sums {
-        generation: 0,
-        controllable: 0,
-        offline: 0,
-        validated: 0,
-        responsive: 0,
-    }
+    NO_SUMS
 }
 
-#[tactic(auto, unfolding(crate::specs::Part::part_of))]
+#[tactic(auto, using(std::proofs::lemmas::Int::ints), unfolding(crate::specs::Part::part_of))]
 fn controllable_part(c: Controllable) -> Sums
     ensures { result ≡ part_of (Resource.Controllable c) }
 {
     Sums {
-        generation: 0,
         controllable: less_both(c.base, c.lpc, c.nonspin) + c.regup as i64,
         offline: c.nonspin as i64,
-        validated: 0,
-        responsive: 0,
+        ..NO_SUMS
     }
 }
 
@@ -63,22 +50,17 @@ fn controllable_part(c: Controllable) -> Sums
 fn load_part(l: Load) -> Sums
     ensures { result ≡ part_of (Resource.Load l) }
 {
+    let sums = Sums {
+        responsive: l.rrs as i64,
+        ..NO_SUMS
+    };
     if l.rrsok == 1 {
         return Sums {
-            generation: 0,
-            controllable: 0,
-            offline: 0,
             validated: less_both(l.net, l.lpc, 0),
-            responsive: l.rrs as i64,
+            ..sums
         };
     }
-    Sums {
-        generation: 0,
-        controllable: 0,
-        offline: 0,
-        validated: 0,
-        responsive: l.rrs as i64,
-    }
+    sums
 }
 
 // What a resource adds to the sums.

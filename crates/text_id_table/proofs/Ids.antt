@@ -1,14 +1,16 @@
 -- Laws on ids among others: the bytes before a mark, one after the other; the id that starts at a position; in a text; and whether an id stands above.
 use Prim.Native.Nat.{ℕ, zero, suc, ◌+◌, ◌-◌, ◌≤◌, ◌<◌}
-use native.Mathlib.Numerals.{add-one}
 use native.Mathlib.Omega.{arith}
 use mathlib.Core.Path.{◌≡◌, refl, ap, sym, ◌∙◌}
-use mathlib.Core.Bool.{Bool, true, false, ◌||◌, cond}
-use mathlib.Core.List.{List, [], ◌∷◌, ◌++◌, append_assoc, append-nil}
-use borrow.Author.Tests.{eq-eqb, ne_eqb}
+use mathlib.Core.Bool.{Bool, true, false, not, ◌||◌, cond}
+use mathlib.Core.List.{List, [], ◌∷◌, ◌++◌, append_assoc}
+use borrow.Author.Tests.{eq-eqb}
 use lib.Dec.{eqb}
-use lib.ListN.{length, take, drop, get_or, length-take, length-drop, drop_of_length-le}
-use lib.Seq.{take-suc, take_all, drop-cons, append_snoc, drop-drop, drop-append_seam}
+use lib.ListN.{length, take, drop, length-take, length-drop, drop_of_length-le}
+use lib.Seq.{take_all, drop-drop, drop-append_seam}
+use Rattle.std.specs.Prelude.{◌==◌, position, Some, None}
+use Rattle.std.specs.List.{position_or_len}
+use Rattle.text_line.proofs.Marks.{first_some, first_none}
 use Rattle.text_line.specs.Judged.{Judged, good, bad}
 use Rattle.text_line.specs.Line.{line_in, value_or_none, value_at}
 use Rattle.text_line.specs.Piece.{part}
@@ -19,34 +21,23 @@ use Rattle.text_id.specs.Id.{is_id_byte, is_id}
 use Rattle.text_id.proofs.Ids.{id_bytes, Free, id_free}
 use Rattle.text_id_table.specs.Ids.{before, id_at, stands_in}
 
--- ---- the bytes before a mark, one after the other
+-- ---- the bytes before the first mark
 
--- those up to a position as they stand, and what is left of the bytes up to a mark
-pub record BeforeFrom (mark : ℕ) (bytes : List ℕ) (end : ℕ) : Type 0 where
-  pub rest : before mark bytes ≡ take end bytes ++ before mark (drop end bytes)
+before_first_mark : (mark : ℕ) (bytes : List ℕ) → before mark bytes ≡ take (position_or_len (λ byte. byte == mark) bytes) bytes
+unfolding before
+before_first_mark mark [] = refl
+before_first_mark mark (byte ∷ rest) = rw (before_first_mark mark rest) (go (eqb byte mark) (position_or_len (λ other. other == mark) rest))
+  where
+    go : (b : Bool) (n : ℕ) → cond b [] (byte ∷ take n rest) ≡ take (cond (not b) (1 + n) 0) (byte ∷ rest)
+    go true n = refl
+    go false n = let one : 1 + n ≡ suc n = omega arith in rw one
 
-abbrev pub before_start : (mark : ℕ) (bytes : List ℕ) → BeforeFrom mark bytes 0
-before_start mark bytes = record { rest = refl }
+module _ (mark : ℕ) (bytes : List ℕ) where
+  pub before_marked : {end : ℕ} → position (λ byte. byte == mark) bytes ≡ Some end → before mark bytes ≡ take end bytes
+  before_marked e = rw (before_first_mark mark bytes, first_some (λ byte. byte == mark) bytes e)
 
-module _ {mark : ℕ} {bytes : List ℕ} {end : ℕ} (from : BeforeFrom mark bytes end) where
-  pub before_over : length bytes ≤ end → bytes ≡ before mark bytes
-  unfolding before
-  before_over h = sym (from.rest ∙ rw (drop_of_length-le bytes {i = end} h, take_all end bytes h) (append-nil bytes))
-
-  module _ (within : end < length bytes) where
-    pub before_marked : get_or bytes end 0 ≡ mark → take end bytes ≡ before mark bytes
-    unfolding before
-    before_marked e = sym (from.rest ∙ rw (drop-cons bytes end 0 within, eq-eqb (get_or bytes end 0) mark e) (append-nil (take end bytes)))
-
-    pub before_more : (get_or bytes end 0 ≡ mark → ⊥) → BeforeFrom mark bytes (end + 1)
-    unfolding before
-    before_more other =
-        record {
-          rest =
-              from.rest ∙
-              rw (add-one end, drop-cons bytes end 0 within, ne_eqb (get_or bytes end 0) mark other, take-suc bytes end 0 within)
-              (sym (append_snoc (take end bytes) (get_or bytes end 0) (before mark (drop (suc end) bytes))));
-        }
+  pub before_unmarked : position (λ byte. byte == mark) bytes ≡ None → before mark bytes ≡ bytes
+  before_unmarked e = rw (before_first_mark mark bytes, first_none (λ byte. byte == mark) bytes e) (take_all (length bytes) bytes (omega arith))
 
 -- ---- the id that starts at a position
 

@@ -5,34 +5,17 @@ use native.Mathlib.Nat.{mod-lt}
 use native.Mathlib.Omega.{arith}
 use mathlib.Core.Path.{◌≡◌, refl, sym, ◌∙◌}
 use mathlib.Core.Bool.{Bool, true, false}
-use mathlib.Core.List.{List}
+use mathlib.Core.List.{List, [], ◌∷◌}
 use borrow.Author.Tests.{eq-eqb, ne_eqb, eqb-true, eqb-false}
 use lib.Arith.{digits_mod}
 use lib.Dec.{eqb}
-use lib.ListN.{length, drop, get_or, drop_of_length-le, get_or-eq_default}
-use lib.Seq.{drop-cons}
+use lib.ListN.{length, take, drop, get_or, drop_of_length-le, get_or-eq_default}
+use lib.Seq.{drop-cons, take_all}
 use Rattle.text_word.specs.Word.{same_bytes}
 use Rattle.text_id_table.specs.Table.{hash_from, hash_of, bucket_of, slot_from, slot_of}
 use Rattle.text_id_table.specs.internal.Kept.{id_in}
 
--- ---- the hash of an id, byte by byte
-
-pub record HashFrom (id : List ℕ) (hash i : ℕ) : Type 0 where
-  pub within : i ≤ length id
-  pub small : hash < 4294967296
-  pub rest : hash_of id ≡ hash_from hash (drop i id)
-
-pub hash_start : (id : List ℕ) → HashFrom id 0 0
-hash_start id = record { within = omega arith; small = omega arith; rest = refl }
-
-module _ {id : List ℕ} {hash i : ℕ} (from : HashFrom id hash i) where
-  pub hash_more : i < length id → HashFrom id ((hash + get_or id i 0) * 40503 % 4294967296) (i + 1)
-  unfolding hash_from
-  hash_more h = record { within = omega arith; small = omega arith; rest = rw (from.rest, add-one, drop-cons id i 0 h) }
-
-  pub hash_over : length id ≤ i → hash ≡ hash_of id
-  unfolding hash_from
-  hash_over h = rw (from.rest, drop_of_length-le id {i = i} h)
+-- ---- the hash of an id
 
 -- two steps at once
 two_steps : (hash a b : ℕ) → (hash * 1640493009 + (a * 1640493009 + b * 40503)) % 4294967296 ≡ ((hash + a) * 40503 % 4294967296 + b) * 40503 % 4294967296
@@ -43,11 +26,25 @@ two_steps hash a b =
     let whole : hash * 1640493009 + (a * 1640493009 + b * 40503) ≡ turns * 4294967296 + second % 4294967296 = omega arith in
     rw whole (digits_mod turns (omega arith))
 
-pub hash_pair : {id : List ℕ} {hash i : ℕ} → HashFrom id hash i → i + 1 < length id →
-    HashFrom id ((hash * 1640493009 + (get_or id i 0 * 1640493009 + get_or id (i + 1) 0 * 40503)) % 4294967296) (i + 2)
-hash_pair {id} {hash} {i} from h =
-    let next : i + 2 ≡ i + 1 + 1 = omega arith in
-    rw (two_steps hash (get_or id i 0) (get_or id (i + 1) 0), next) (hash_more (hash_more from (omega arith)) h)
+pub hash_two :
+    (hash : ℕ) (s : List ℕ) → 2 ≤ length s →
+    hash_from ((hash * 1640493009 + (get_or s 0 0 * 1640493009 + get_or s 1 0 * 40503)) % 4294967296) (take (length s - 2) (drop 2 s)) ≡ hash_from hash s
+unfolding hash_from
+hash_two hash [] h = absurd (omega arith)
+hash_two hash (first ∷ []) h = absurd (omega arith)
+hash_two hash (first ∷ second ∷ rest) h = rw (take_all (suc (suc (length rest)) - 2) rest (omega arith), two_steps hash first second)
+
+-- the last byte, and none
+pub hash_last : (hash : ℕ) (s : List ℕ) → length s ≡ 1 → (hash + get_or s 0 0) * 40503 % 4294967296 ≡ hash_from hash s
+unfolding hash_from
+hash_last hash [] h = absurd (omega arith)
+hash_last hash (byte ∷ []) h = refl
+hash_last hash (byte ∷ other ∷ rest) h = absurd (omega arith)
+
+pub hash_none : (hash : ℕ) (s : List ℕ) → length s < 1 → hash ≡ hash_from hash s
+unfolding hash_from
+hash_none hash [] h = refl
+hash_none hash (byte ∷ rest) h = absurd (omega arith)
 
 -- ---- the slots from one on
 

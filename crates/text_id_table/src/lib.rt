@@ -6,49 +6,43 @@ ghost use Rattle.std.specs.Prelude.{◌≡◌};
 ghost use Rattle.text_id_table.specs.Ids.{before, id_at};
 ghost use Rattle.text_id_table.specs.Table.{hash_of, slot_of};
 
+use text_line::piece::mark_at;
 use text_word::is_word;
 
 // The bytes before the first mark; all of them where there is none.
-#[tactic(auto, using(crate::proofs::Ids::before_start, crate::proofs::Ids::before_over, crate::proofs::Ids::before_marked, crate::proofs::Ids::before_more))]
-fn before_mark<'a>(bytes: &'a [u8], mark: u8) -> &'a [u8]
+#[tactic(auto, using(crate::proofs::Ids::before_marked, crate::proofs::Ids::before_unmarked))]
+fn before_mark(bytes: &[u8], mark: u8) -> &[u8]
     ensures { result.now ≡ before mark bytes.now }
 {
-    let mut end: usize = 0;
-    while end < bytes.len() {
-        if bytes[end] == mark {
-            return &bytes[..end];
-        }
-        end += 1;
+    match mark_at(bytes, mark) {
+        Some(end) => &bytes[..end],
+        None => bytes,
     }
-    bytes
 }
 
 // The id that starts at a position: the bytes before a mark, at most 16.
-pub fn id_at<'a>(bytes: &'a [u8], mark: u8, start: usize) -> &'a [u8]
+#[tactic(auto, using(std::proofs::lemmas::List::take_min, std::proofs::lemmas::List::drop_min, text_line::proofs::Parts::part_whole), unfolding(crate::specs::Ids::id_at))]
+pub fn id_at(bytes: &[u8], mark: u8, start: usize) -> &[u8]
     ensures { result.now ≡ id_at mark bytes.now start }
 {
-    if bytes.len() <= start {
-        return &bytes[..0];
-    }
-    if bytes.len() - start < 16 {
-        return before_mark(&bytes[start..], mark);
-    }
-    before_mark(&bytes[start..start + 16], mark)
+    let rest = &bytes[start.min(bytes.len())..];
+    before_mark(&rest[..rest.len().min(16)], mark)
 }
 
 // A number below 2^32 from the bytes of an id, two at a time, since each step waits for the product of the one before; 1640493009 is 40503 squared.
+#[tactic(auto, using(crate::proofs::Slots::hash_two, crate::proofs::Slots::hash_last, crate::proofs::Slots::hash_none))]
 fn hash_of(id: &[u8]) -> usize
     ensures { result ≡ hash_of id.now }
 {
     let mut hash: usize = 0;
-    let mut i: usize = 0;
-    while i + 1 < id.len() {
-        let pair = id[i] as usize * 1640493009 + id[i + 1] as usize * 40503;
+    let mut rest = id;
+    while let [first, second, others @ ..] = rest {
+        let pair = *first as usize * 1640493009 + *second as usize * 40503;
         hash = (hash * 1640493009 + pair) % 4294967296;
-        i += 2;
+        rest = others;
     }
-    if i < id.len() {
-        hash = (hash + id[i] as usize) * 40503 % 4294967296;
+    if let [last] = rest {
+        hash = (hash + *last as usize) * 40503 % 4294967296;
     }
     hash
 }
@@ -63,16 +57,11 @@ pub fn slot_of(bytes: &[u8], mark: u8, starts: &[usize], id: &[u8]) -> usize
     if buckets == 0 {
         return starts.len();
     }
-    let mut slot = hash_of(id) % buckets;
-    while slot < starts.len() {
+    for slot in hash_of(id) % buckets..starts.len() {
         let start = starts[slot];
-        if start == 0 {
+        if start == 0 || is_word(id, id_at(bytes, mark, start - 1)) {
             return slot;
         }
-        if is_word(id, id_at(bytes, mark, start - 1)) {
-            return slot;
-        }
-        slot += 1;
     }
-    slot
+    starts.len()
 }

@@ -18,14 +18,14 @@ use Rattle.text_line.specs.Piece.{piece_length, one_more}
 -- ---- the first byte that passes a test
 
 module _ (test : ℕ → Bool) (s : List ℕ) where
-  first_some : {i : ℕ} → position test s ≡ Some i → position_or_len test s ≡ i
+  pub first_some : {i : ℕ} → position test s ≡ Some i → position_or_len test s ≡ i
   first_some {i} e = go (position_or_len test s) (ltb (position_or_len test s) (length s)) e
     where
       go : (n : ℕ) (b : Bool) → cond b (Some n) None ≡ Some i → n ≡ i
       go n true e = cc
       go n false e = cc
 
-  first_none : position test s ≡ None → position_or_len test s ≡ length s
+  pub first_none : position test s ≡ None → position_or_len test s ≡ length s
   first_none e = go (ltb (position_or_len test s) (length s)) refl e
     where
       go : (b : Bool) → ltb (position_or_len test s) (length s) ≡ b → cond b (Some (position_or_len test s)) None ≡ None → position_or_len test s ≡ length s

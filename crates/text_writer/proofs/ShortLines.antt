@@ -1,5 +1,5 @@
 -- How many bytes lines of short numbers have at most.
-use Prim.Native.Nat.{ℕ, suc, ◌+◌, ◌*◌, ◌/◌, ◌≤◌}
+use Prim.Native.Nat.{ℕ, zero, suc, ◌+◌, ◌*◌, ◌/◌, ◌≤◌}
 use native.Mathlib.Omega.{arith}
 use mathlib.Core.Bool.{Bool, true, false, cond}
 use mathlib.Core.List.{List, [], ◌∷◌, ◌++◌}
@@ -15,6 +15,7 @@ use Rattle.text_number.proofs.WrittenDigits.{written_within}
 use Rattle.text_schema.specs.Schema.{keys_of}
 use Rattle.text_schema.proofs.Fields.{keys_computed}
 use Rattle.text_number.specs.Marked.{first_marked, marked_by}
+use Rattle.text_writer.specs.internal.Counted.{mark_bytes}
 use Rattle.text_writer.specs.Write.{written_marked_line, written_marked_lines}
 use Rattle.text_writer.proofs.MarkedLines.{first_mark, marked_line_length}
 
@@ -43,9 +44,17 @@ key_bytes_within keys = rw (keys_computed keys) (omega (arith, computed_bytes []
 abbrev pub is_short : ℤ → Bool
 is_short z = ltb (nat_abs z) 10000000
 
--- each line of such a number has at most eight bytes after its key, a mark, and byte 10
-pub short_lines : (keys : List (List ℕ)) (values : List ℤ) (marks : ℕ) → list_all is_short values ≡ true → length (written_marked_lines keys (marked_by marks values)) ≤ key_bytes keys + 10 * length values
-unfolding written_marked_lines marked_by
+-- there are no more marks than numbers
+pub marks_few : (count marks : ℕ) → mark_bytes count marks ≤ count
+unfolding mark_bytes
+marks_few zero marks = omega arith
+marks_few (suc count) marks = omega (arith, marks_few count (marks / 2))
+
+-- each line of such a number has at most eight bytes after its key, byte 10, and its mark
+pub short_lines :
+    (keys : List (List ℕ)) (values : List ℤ) (marks : ℕ) → list_all is_short values ≡ true →
+    length (written_marked_lines keys (marked_by marks values)) ≤ key_bytes keys + 9 * length values + mark_bytes (length values) marks
+unfolding written_marked_lines marked_by mark_bytes
 short_lines [] values marks short = omega arith
 short_lines (key ∷ keys) [] marks short = omega arith
 short_lines (key ∷ keys) (z ∷ values) marks short =

@@ -4,7 +4,7 @@
 
 ghost use Rattle.std.specs.Prelude.{◌≡◌, ◌≤◌, ◌+◌, ◌-◌, length};
 ghost use Rattle.text_number.specs.Number.{digits_of, written_number};
-ghost use Rattle.text_writer.specs.internal.Signed.{signed, signed_value, signed_line, cut_to};
+ghost use Rattle.text_writer.specs.internal.Signed.{signed, signed_value, cut_to};
 ghost use Rattle.text_writer.specs.Write.{TextLaid, LinesWritten};
 
 use crate::marked::write_marked_lines;
@@ -23,7 +23,7 @@ fn digit_count(mut n: u64) -> usize
 {
     let mut count: usize = 0;
     while 10000 <= n {
-        n = n / 10000;
+        n /= 10000;
         count += 4;
     }
     count + 1 + (10 <= n) as usize + (100 <= n) as usize + (1000 <= n) as usize
@@ -53,8 +53,8 @@ fn put_digits(buffer: &mut [u8], start: usize, end: usize, mut n: u64) -> usize
     ensures { TextLaid (cut_to (end - start) (digits_of n)) buffer.old result buffer.new end }
 {
     for place in (start..end).rev() {
-        buffer[place] = (48 + n % 10) as u8;
-        n = n / 10;
+        buffer[place] = b'0' + (n % 10) as u8;
+        n /= 10;
         if n == 0 {
             return place;
         }
@@ -74,7 +74,7 @@ fn put_number(buffer: &mut [u8], start: usize, end: usize, negative: bool, n: u6
     if first <= start {
         return first;
     }
-    buffer[first - 1] = 45;
+    buffer[first - 1] = b'-';
     first - 1
 }
 
@@ -85,17 +85,8 @@ fn put_value(buffer: &mut [u8], at: usize, negative: bool, n: u64) -> usize
 {
     let end = at + digit_count(n) + negative as usize;
     put_number(buffer, at, end, negative, n);
-    buffer[end] = 10;
+    buffer[end] = b'\n';
     end + 1
-}
-
-// A line: its key, the number, byte 10; where the next line starts.
-fn put_line(buffer: &mut [u8], at: usize, key: &[u8], negative: bool, n: u64) -> usize
-    requires { at + length (signed_line key.now negative n) ≤ length buffer.old }
-    ensures { TextLaid (signed_line key.now negative n) buffer.old at buffer.new result }
-{
-    let start = put_bytes(buffer, at, key);
-    put_value(buffer, start, negative, n)
 }
 
 // The text of the values under their keys, at a position of a lent buffer: lines of which no number is marked.

@@ -11,7 +11,7 @@ pub(crate) fn put_text_line(buffer: &mut [u8], at: usize, key: &[u8], text: &[u8
 {
     let start = put_bytes(buffer, at, key);
     let end = put_bytes(buffer, start, text);
-    buffer[end] = 10;
+    buffer[end] = b'\n';
     end + 1
 }
 

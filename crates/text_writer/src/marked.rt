@@ -16,7 +16,7 @@ fn whole_keys<'a>(keys: &'a [u8]) -> &'a [u8]
     ensures { (keys_of result.now ≡ keys_of keys.now) × WholeKeys result.now }
 {
     for last in (0..keys.len()).rev() {
-        if keys[last] == 61 {
+        if keys[last] == b'=' {
             return &keys[..=last];
         }
     }
@@ -30,7 +30,7 @@ fn put_key(buffer: &mut [u8], at: usize, keys: &[u8]) -> usize
 {
     for (i, byte) in keys.iter().enumerate() {
         buffer[at + i] = *byte;
-        if *byte == 61 {
+        if *byte == b'=' {
             return at + i + 1;
         }
     }
@@ -63,7 +63,7 @@ fn put_lines(buffer: &mut [u8], mut at: usize, keys: &[u8], values: &[i64], mut 
         let start = put_key(buffer, at, &keys[from..]);
         from += start - at;
         at = put_marked_value(buffer, start, *z, marks % 2 == 1);
-        marks = marks / 2;
+        marks /= 2;
     }
     at
 }

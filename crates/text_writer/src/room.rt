@@ -27,7 +27,7 @@ fn counted_lines_fit(keys: &[u8], values: &[i64], mut marks: u64, mut room: usiz
 {
     let mut from: usize = 0;
     for z in values {
-        let end = piece_end(keys, from, 61);
+        let end = piece_end(keys, from, b'=');
         if end == from {
             return true;
         }
@@ -37,7 +37,7 @@ fn counted_lines_fit(keys: &[u8], values: &[i64], mut marks: u64, mut room: usiz
         }
         room -= line;
         from = end;
-        marks = marks / 2;
+        marks /= 2;
     }
     true
 }

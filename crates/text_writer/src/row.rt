@@ -12,7 +12,7 @@ fn put_spaces(buffer: &mut [u8], at: usize, count: usize) -> usize
     ensures { TextLaid (spaces count) buffer.old at buffer.new result }
 {
     let end = at + count;
-    buffer[at..end].fill(32);
+    buffer[at..end].fill(b' ');
     end
 }
 
@@ -68,6 +68,6 @@ pub fn write_row(
     }
     let start = put_bytes(buffer, at, name);
     let end = put_cells(buffer, start, widths, values);
-    buffer[end] = 10;
+    buffer[end] = b'\n';
     Some(end + 1)
 }

@@ -1,7 +1,7 @@
 use mathlib.Core.Path.{◌≡◌, sym, ◌∙◌}
 use borrow.Author.Rules.{rules}
 use Rattle.text_refusal.specs.Refusal.{refusal_of}
-use Rattle.curve_text.proofs.MapErr.{mapped_ok, mapped_err}
+use Rattle.text_refusal.proofs.MapErr.{mapped_ok, mapped_err}
 use Rattle.curve_text.proofs.CurveText.{text_refused, text_accepted}
 use Rattle.curve_text.proofs.CurveCases.{text_too_long}
 use Rattle.curve_text.proofs.read_curves.Goals as goal

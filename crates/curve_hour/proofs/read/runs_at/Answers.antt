@@ -2,7 +2,7 @@
 use Rattle.std.proofs.Common.{arith, rules, sym, ◌∙◌, to_z-of_z}
 use mir.Syntax.{w64}
 use mir.Val.{SFits}
-use Rattle.curve_hour.proofs.Mapped.{mapped_ok, mapped_err}
+use Rattle.text_refusal.proofs.MapErr.{mapped_ok, mapped_err}
 use Rattle.curve_hour.proofs.Values.{held}
 use Rattle.curve_hour.proofs.Hours.{given_within, runs_answers, runs_ended, mean_small}
 use Rattle.curve_hour.proofs.read.runs_at.Goals as goal
@@ -30,14 +30,14 @@ returns-in-Err c =
 
 pub returns-in_err-map_err : goal.returns-in_err-map_err
 returns-in_err-map_err c =
-    let found = mapped_err _ _ _ c.map_err.ensures.cases _ c.in_err-map_err.was in
+    let found = mapped_err _ _ _ c.map_err.ensures.cases c.in_err-map_err.was in
     let refused = runs_ended c.args.text.now c.args.hour.now c.args.next c.requires.inside c.runs-runs.ensures.counted c.read_intervals.ensures _ c.in-Ok.is _ (sym found.1 ∙ c.end_at.ensures) in
     search rules
 
 pub returns : goal.returns
 returns c =
     let fits : SFits w64 c.in-Ok.read.sum = search rules in
-    let ended = mapped_ok _ _ _ c.map_err.ensures.cases _ c.in_ok-map_err.was in
+    let ended = mapped_ok _ _ _ c.map_err.ensures.cases c.in_ok-map_err.was in
     rw (
       held c.error.result c.error.type_inv,
       c.error.ensures,

@@ -8,12 +8,12 @@ use Rattle.text_writer.proofs.output.put_refusal.Goals as goal
 use Rattle.text_writer.proofs.output.put_refusal.Goals.{Start}
 
 -- the room that the three lines have
-fits : (c : Start) → length (signed_line (bytes "refused=") false c.args.number) + (length (signed_line (bytes "line=") false c.args.line) + length (bytes "text=" ++ (c.args.name.now ++ (10 ∷ [])))) ≤ length c.args.buffer.now
+fits : (c : Start) → length (signed_line (bytes "refused=") false c.args.found.number) + (length (signed_line (bytes "line=") false c.args.found.line) + length (bytes "text=" ++ (c.args.name.now ++ (10 ∷ [])))) ≤ length c.args.buffer.now
 fits c =
-    let one = signed_line (bytes "refused=") false c.args.number in
-    let two = signed_line (bytes "line=") false c.args.line in
+    let one = signed_line (bytes "refused=") false c.args.found.number in
+    let two = signed_line (bytes "line=") false c.args.found.line in
     let three = bytes "text=" ++ (c.args.name.now ++ (10 ∷ [])) in
-    omega (arith, c.requires, ap length (refusal-signed (record { number = c.args.number; line = c.args.line }) c.args.name.now), length-append one (two ++ three), length-append two three)
+    omega (arith, c.requires, ap length (refusal-signed c.args.found c.args.name.now), length-append one (two ++ three), length-append two three)
 
 pub put_line-second-requires : goal.put_line-second-requires
 put_line-second-requires c = omega (arith, fits (goal.at.put_line-second-requires c).Start)
@@ -27,5 +27,5 @@ put_text_line-requires c = omega (arith, fits (goal.at.put_text_line-requires c)
 pub returns : goal.returns
 returns c =
     let room = fits (goal.at.returns c).Start in
-    rw (refusal-signed (record { number = c.args.number; line = c.args.line }) c.args.name.now)
+    rw (refusal-signed c.args.found c.args.name.now)
     (laid_both c.put_line-second.ensures (laid_both c.put_line-third.ensures c.put_text_line.ensures (omega (arith, room, c.put_line-second.ensures.ends))) (omega (arith, room)))
