@@ -9,10 +9,9 @@ use borrow.Author.Tests.{eq-eqb, ne_eqb, eqb-true}
 use lib.Dec.{eqb}
 use lib.IntN.{ℤ}
 use lib.ListN.{length}
-use Rattle.text_refusal.specs.Answer.{refusal, followed_by}
+use Rattle.std.specs.Prelude.{Ok, Err}
+use Rattle.text_refusal.specs.Answer.{Answer, refusal, followed_by}
 use Rattle.text_refusal.specs.declared.refusal.Refusal.{Refusal}
-use Rattle.text_refusal.specs.declared.answer.Answer.{Answer}
-use Rattle.text_refusal.specs.declared.answer.Answer.TheVariants as answer
 use Rattle.text_schema.specs.Checked.{text_of, first_refused}
 use Rattle.text_schema.proofs.Checked.{lines_long, checked_length, text_append, first_append}
 use Rattle.pricing_sums.specs.Header.{header_values, header_fault}
@@ -33,7 +32,7 @@ module _ (header : List ℤ) (ids : List ℕ) (numbers : List ℤ) where
   -- the first refused line: of the header, then of the rows
   pub lines_answer :
       first_refused 1 (held_lines header ids numbers) ≡
-      followed_by (cond (eqb (header_fault the_header) 0) answer.Accepted (refusal 7 (header_fault the_header))) (first_refused 9 (rows_lines [] (held_rows ids numbers)))
+      followed_by (cond (eqb (header_fault the_header) 0) (Ok tt) (refusal 7 (header_fault the_header))) (first_refused 9 (rows_lines [] (held_rows ids numbers)))
   unfolding held_lines
   lines_answer =
       let eight : 1 + length (header_checked the_header) ≡ 9 = omega (arith, checked_length header_fields (header_values the_header) (omega (arith, lines_long header_lines_lem)), lines_long header_lines_lem) in
@@ -68,42 +67,42 @@ module _ (header : List ℤ) (ids : List ℕ) (numbers : List ℤ) where
       rows_answer : first_refused 1 (held_lines header ids numbers) ≡ found
       rows_answer = lines_answer ∙ rw (← is, none, ← says)
 
-      pub rows_decide : {told : Refusal} → found ≡ answer.Refused told → found ≡ held_answer header ids numbers
+      pub rows_decide : {told : Refusal} → found ≡ Err told → found ≡ held_answer header ids numbers
       rows_decide refused = sym (held_answer_lem ∙ rw (rows_answer, refused) refl)
 
-      module _ (accepted : found ≡ answer.Accepted) {mark : ℕ} (mark_is : mark ≡ suspect) where
+      module _ (accepted : found ≡ Ok tt) {mark : ℕ} (mark_is : mark ≡ suspect) where
         pub mark_decides : (mark ≡ 0 → ⊥) → refusal 15 mark ≡ held_answer header ids numbers
         mark_decides some = sym (held_answer_lem ∙ rw (rows_answer, accepted, ← mark_is, ne_eqb mark 0 some))
 
-        pub none_decides : mark ≡ 0 → answer.Accepted ≡ held_answer header ids numbers
+        pub none_decides : mark ≡ 0 → (Ok tt) ≡ held_answer header ids numbers
         none_decides fine = sym (held_answer_lem ∙ rw (rows_answer, accepted, ← mark_is, eq-eqb mark 0 fine))
 
   -- a snapshot that is accepted: no line is refused, and none is turned back by a mark
   pub record HeldAccepted : Type 0 where
-    pub lines_accepted : first_refused 1 (held_lines header ids numbers) ≡ answer.Accepted
+    pub lines_accepted : first_refused 1 (held_lines header ids numbers) ≡ Ok tt
     pub none_suspect : suspect ≡ 0
 
-  pub held_accepted : held_answer header ids numbers ≡ answer.Accepted → HeldAccepted
+  pub held_accepted : held_answer header ids numbers ≡ Ok tt → HeldAccepted
   held_accepted e = go (first_refused 1 (held_lines header ids numbers)) refl (sym held_answer_lem ∙ e)
     where
-      fine : (b : Bool) → eqb suspect 0 ≡ b → cond b answer.Accepted (refusal 15 suspect) ≡ answer.Accepted → suspect ≡ 0
+      fine : (b : Bool) → eqb suspect 0 ≡ b → cond b (Ok tt) (refusal 15 suspect) ≡ Ok tt → suspect ≡ 0
       fine true p e = eqb-true suspect 0 p
       fine false p e = let z : ◌≡◌ {A = ℕ} 0 1 = cc in absurd (omega arith)
 
-      go : (found : Answer) → first_refused 1 (held_lines header ids numbers) ≡ found → followed_by found (suspect_answer suspect) ≡ answer.Accepted → HeldAccepted
-      go answer.Accepted p e = record { lines_accepted = p; none_suspect = fine (eqb suspect 0) refl e }
-      go (answer.Refused found) p e = let z : ◌≡◌ {A = ℕ} 0 1 = cc in absurd (omega arith)
+      go : (found : Answer) → first_refused 1 (held_lines header ids numbers) ≡ found → followed_by found (suspect_answer suspect) ≡ Ok tt → HeldAccepted
+      go (Ok tt) p e = record { lines_accepted = p; none_suspect = fine (eqb suspect 0) refl e }
+      go (Err found) p e = let z : ◌≡◌ {A = ℕ} 0 1 = cc in absurd (omega arith)
 
   -- and back
-  pub accepted_held : HeldAccepted → held_answer header ids numbers ≡ answer.Accepted
+  pub accepted_held : HeldAccepted → held_answer header ids numbers ≡ Ok tt
   accepted_held all = held_answer_lem ∙ rw (all.lines_accepted, eq-eqb suspect 0 all.none_suspect)
 
   -- the line of the count is refused above 4096
-  pub held_few : held_answer header ids numbers ≡ answer.Accepted → held_count ids numbers ≤ 4096
+  pub held_few : held_answer header ids numbers ≡ Ok tt → held_count ids numbers ≤ 4096
   held_few accepted = go (eqb (header_fault the_header) 0) refl (sym lines_answer ∙ (held_accepted accepted).lines_accepted)
     where
       go : (b : Bool) → eqb (header_fault the_header) 0 ≡ b →
-          followed_by (cond b answer.Accepted (refusal 7 (header_fault the_header))) (first_refused 9 (rows_lines [] (held_rows ids numbers))) ≡ answer.Accepted → held_count ids numbers ≤ 4096
+          followed_by (cond b (Ok tt) (refusal 7 (header_fault the_header))) (first_refused 9 (rows_lines [] (held_rows ids numbers))) ≡ Ok tt → held_count ids numbers ≤ 4096
       go true p e = (header_bound the_header (eqb-true (header_fault the_header) 0 p)).count
       go false p e = let z : ◌≡◌ {A = ℕ} 0 1 = cc in absurd (omega arith)
 
