@@ -14,7 +14,7 @@ use text_id::is_id;
 use text_id_table::{id_at, slot_of};
 use text_refusal::refusal::Refusal;
 
-// How many lines a row has.
+// How many lines a row has, by its kind, which stays the number that hosts write: `lines_of_kind` of specs/Lines.antt goes by it.
 pub(crate) fn row_lines(values: &[i64; 9]) -> usize
     ensures { result ≡ line_count (place_of (value values.now 0)) }
 {

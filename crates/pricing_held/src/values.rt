@@ -57,16 +57,11 @@ fn check_generator(values: &[i64; 9], line: usize) -> Result<(), Refusal>
     check_flag(values[7], marks / 32 % 2 == 1, line + 6)
 }
 
-// The numbers of a load after its kind: four numbers, of which the first is a flag in another load than a controllable one.
-fn check_load(values: &[i64; 9], kind: usize, line: usize) -> Result<(), Refusal>
-    requires { (line ≤ 90000) × ((4 ≤ kind) × (kind ≤ 5)) }
-    ensures { result ≡ first_refused line (lines_of_kind kind (row_of values.now)) }
+// The numbers of a load after its kind: a flag and three numbers.
+fn check_load(values: &[i64; 9], line: usize) -> Result<(), Refusal>
+    requires { line ≤ 90000 }
+    ensures { result ≡ first_refused line (lines_of_kind 5 (row_of values.now)) }
 {
-    if kind == 4 {
-        let lows = [0i64; 4];
-        let highs = [2000000i64; 4];
-        return check_numbers(&values[2..6], &lows, &highs, line);
-    }
     let marks = magnitude(values[8]);
     check_flag(values[2], marks % 2 == 1, line)?;
     let lows = [0i64; 3];
@@ -74,18 +69,26 @@ fn check_load(values: &[i64; 9], kind: usize, line: usize) -> Result<(), Refusal
     check_numbers(&values[3..6], &lows, &highs, line + 1)
 }
 
-// The numbers of a row, the kind's line first.
+// The numbers of a controllable load after its kind: four numbers.
+fn check_controllable(values: &[i64; 9], line: usize) -> Result<(), Refusal>
+    requires { line ≤ 90000 }
+    ensures { result ≡ first_refused line (lines_of_kind 4 (row_of values.now)) }
+{
+    let lows = [0i64; 4];
+    let highs = [2000000i64; 4];
+    check_numbers(&values[2..6], &lows, &highs, line)
+}
+
+// The numbers of a row, the kind's line first. The kind stays the number that hosts write into the row: `lines_of_kind` of specs/Lines.antt goes by it.
 #[tactic(auto, using(crate::proofs::RowLines::kind_refused, crate::proofs::RowLines::kind_passed, crate::proofs::RowLines::of_generator))]
 pub(crate) fn check_values(values: &[i64; 9], line: usize) -> Result<(), Refusal>
     requires { line ≤ 80000 }
     ensures { result ≡ first_refused line (checked_line kind_field (place_of (value values.now 0)) ∷ lines_of_kind (place_of (value values.now 0)) (row_of values.now)) }
 {
-    let kind = place_of(values[0]);
-    if 5 < kind {
-        return Err(Refusal { number: 6, line });
+    match place_of(values[0]) {
+        0..=3 => check_generator(values, line + 1),
+        4 => check_controllable(values, line + 1),
+        5 => check_load(values, line + 1),
+        _ => Err(Refusal { number: 6, line }),
     }
-    if kind < 4 {
-        return check_generator(values, line + 1);
-    }
-    check_load(values, kind, line + 1)
 }

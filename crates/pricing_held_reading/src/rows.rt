@@ -62,7 +62,7 @@ fn lay_load(text: &[u8], kind: usize, at: usize, sizes: &[usize], row: &mut [i64
     four.next
 }
 
-// The lines of a resource after its id laid in its row of 9 numbers; where the next line starts.
+// The lines of a resource after its id laid in its row of 9 numbers; where the next line starts. The kind stays the number that hosts read in the row.
 fn lay_resource(text: &[u8], at: usize, row: &mut [i64]) -> usize
     requires { Got (resource_at text.now at) × (length row.old ≡ 9) }
     ensures { Laid (resource_at text.now at) number_row row.new result }

@@ -26,7 +26,8 @@ pub(crate) fn numbers_length(values: &[i64]) -> usize
     total
 }
 
-// How many bytes the lines of a row after its kind have. 46, 27 and 22 are the bytes of the keys and of byte 10 in each line; a mark is one more.
+// How many bytes the lines of a row after its kind have. 46, 27 and 22 are the bytes of the keys and of byte 10 in each line; a mark is one more. The kind
+// stays the number that hosts write into the row: `lines_of_kind` of pricing_held goes by it.
 pub(crate) fn values_length(values: &[i64; 9], kind: usize) -> usize
     ensures { (result ≡ length (text_of (lines_of_kind kind (row_of values.now)))) × (result ≤ 180) }
 {
