@@ -10,6 +10,7 @@ use lib.Dec.{eqb}
 use lib.IntN.{ℤ}
 use lib.ListN.{length}
 use Rattle.std.specs.Prelude.{Ok, Err}
+use Rattle.std.specs.Simd.{first_chunks}
 use Rattle.text_refusal.specs.Answer.{Answer, refusal, followed_by}
 use Rattle.text_refusal.specs.declared.refusal.Refusal.{Refusal}
 use Rattle.text_schema.specs.Checked.{text_of, first_refused}
@@ -23,6 +24,7 @@ use Rattle.pricing_snapshot.proofs.HeaderLines.{header_lines_lem, header_refused
 use Rattle.pricing_held.specs.Rows.{Row, held_count, header_held, held_rows, entry_of, contents_held}
 use Rattle.pricing_held.specs.Lines.{header_checked, rows_lines, held_lines, suspect_answer, held_answer, held_text}
 use Rattle.pricing_held.specs.internal.Checks.{resource_in, rows_in}
+use Rattle.pricing_held.proofs.Chunks.{rows_held}
 use Rattle.pricing_held.proofs.Suspects.{rows_resources}
 
 module _ (header : List ℤ) (ids : List ℕ) (numbers : List ℤ) where
@@ -51,31 +53,35 @@ module _ (header : List ℤ) (ids : List ℕ) (numbers : List ℤ) where
   unfolding held_answer
   held_answer_lem = refl
 
-  -- the line that the header's numbers give
-  pub fault_held : {count line : ℕ} {h : Header} → count ≡ held_count ids numbers → h ≡ header_held header count → line ≡ header_fault h → line ≡ header_fault the_header
-  fault_held counted made told = told ∙ ap header_fault (made ∙ ap (header_held header) counted)
+  -- the line that the header's numbers give, as the code has it
+  module _ {count line : ℕ} {h : Header} (counted : count ≡ held_count ids numbers) (made : h ≡ header_held header count) (said : line ≡ header_fault h) where
+    fault : line ≡ header_fault the_header
+    fault = said ∙ ap header_fault (made ∙ ap (header_held header) counted)
 
-  -- where it is none there are few rows, as long as the slices say
-  pub few_held : {line count : ℕ} → line ≡ header_fault the_header → line ≡ 0 → count ≡ held_count ids numbers → count ≤ 4096
-  few_held is none counted = omega (arith, (header_bound the_header (sym is ∙ none)).count)
-
-  module _ {line : ℕ} (is : line ≡ header_fault the_header) where
     pub header_decides : (line ≡ 0 → ⊥) → refusal 7 line ≡ held_answer header ids numbers
-    header_decides some = sym (held_answer_lem ∙ rw (lines_answer, ← is, ne_eqb line 0 some))
+    header_decides some = sym (held_answer_lem ∙ rw (lines_answer, ← fault, ne_eqb line 0 some))
 
-    module _ (none : line ≡ 0) {found : Answer} (says : found ≡ first_refused 9 (rows_lines [] (held_rows ids numbers))) where
-      rows_answer : first_refused 1 (held_lines header ids numbers) ≡ found
-      rows_answer = lines_answer ∙ rw (← is, none, ← says)
+    module _ (none : line ≡ 0) where
+      pub few_rows : count ≤ 4096
+      few_rows = omega (arith, (header_bound the_header (sym fault ∙ none)).count)
 
-      pub rows_decide : {told : Refusal} → found ≡ Err told → found ≡ held_answer header ids numbers
-      rows_decide refused = sym (held_answer_lem ∙ rw (rows_answer, refused) refl)
+      -- the rows, as they are cut from the numbers
+      module _ {rows : List (List ℤ)} (cut : rows ≡ first_chunks 9 (held_count ids numbers) numbers) {found : Answer} (says : found ≡ first_refused 9 (rows_lines [] (rows_in ids 0 rows))) where
+        rows_answer : first_refused 1 (held_lines header ids numbers) ≡ found
+        rows_answer = lines_answer ∙ rw (← fault, none, ← rows_held ids numbers cut, ← says)
 
-      module _ (accepted : found ≡ Ok tt) {mark : ℕ} (mark_is : mark ≡ suspect) where
-        pub mark_decides : (mark ≡ 0 → ⊥) → refusal 15 mark ≡ held_answer header ids numbers
-        mark_decides some = sym (held_answer_lem ∙ rw (rows_answer, accepted, ← mark_is, ne_eqb mark 0 some))
+        pub rows_decide : {told : Refusal} → found ≡ Err told → found ≡ held_answer header ids numbers
+        rows_decide refused = sym (held_answer_lem ∙ rw (rows_answer, refused) refl)
 
-        pub none_decides : mark ≡ 0 → (Ok tt) ≡ held_answer header ids numbers
-        none_decides fine = sym (held_answer_lem ∙ rw (rows_answer, accepted, ← mark_is, eq-eqb mark 0 fine))
+        module _ (accepted : found ≡ Ok tt) {mark : ℕ} (mark_is : mark ≡ suspect_line (map resource_in rows)) where
+          suspect_is : mark ≡ suspect
+          suspect_is = mark_is ∙ suspect_held rows (rows_held ids numbers cut)
+
+          pub mark_decides : (mark ≡ 0 → ⊥) → refusal 15 mark ≡ held_answer header ids numbers
+          mark_decides some = sym (held_answer_lem ∙ rw (rows_answer, accepted, ← suspect_is, ne_eqb mark 0 some))
+
+          pub none_decides : mark ≡ 0 → Ok tt ≡ held_answer header ids numbers
+          none_decides fine = sym (held_answer_lem ∙ rw (rows_answer, accepted, ← suspect_is, eq-eqb mark 0 fine))
 
   -- a snapshot that is accepted: no line is refused, and none is turned back by a mark
   pub record HeldAccepted : Type 0 where

@@ -51,7 +51,7 @@ module _ {line : ℕ} {lows highs values : List ℤ} {i : ℕ} (so_far : Numbers
       let place : suc (line + i) ≡ line + suc i = omega arith in
       record { lows_long = so_far.lows_long; highs_long = so_far.highs_long; rest = rw (numbers_due h, inside, add-one i, place) }
 
-  pub numbers_over : length values ≤ i → (Ok tt) ≡ numbers_checked line lows highs values
+  pub numbers_over : length values ≤ i → Ok tt ≡ numbers_checked line lows highs values
   unfolding numbers_checked
   numbers_over h = rw (so_far.rest, drop_of_length-le values {i = i} h)
 

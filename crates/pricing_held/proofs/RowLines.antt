@@ -106,7 +106,7 @@ module _ (values : List ℤ) (line : ℕ) where
       generator_refused h is refused = sym (generator_answer h ∙ rw (← is, refused) refl)
 
       pub generator_checked :
-          place_of (value values 1) ≤ 6 → (Ok tt) ≡ numbers_checked (line + 1) (neg_ℤ (pos 2000000) ∷ replicate 4 (pos 0)) (replicate 5 (pos 2000000)) (take 5 (drop 2 values)) →
+          place_of (value values 1) ≤ 6 → Ok tt ≡ numbers_checked (line + 1) (neg_ℤ (pos 2000000) ∷ replicate 4 (pos 0)) (replicate 5 (pos 2000000)) (take 5 (drop 2 values)) →
           {marked : Bool} → marked ≡ first_marked (row_marks / 32) → found ≡ flag_checked (line + 6) marked (value values 7) → found ≡ first_refused line (lines_of_kind 0 (row_of values))
       generator_checked h passed mark is =
           let halves : marks_after 5 row_marks % 2 ≡ row_marks / 32 % 2 = omega arith in
@@ -126,7 +126,7 @@ module _ (values : List ℤ) (line : ℕ) where
       load_refused mark is refused = sym (load_answer ∙ rw (← mark, ← is, refused) refl)
 
       pub load_checked :
-          {marked : Bool} → marked ≡ first_marked row_marks → (Ok tt) ≡ flag_checked line marked (value values 2) →
+          {marked : Bool} → marked ≡ first_marked row_marks → Ok tt ≡ flag_checked line marked (value values 2) →
           found ≡ numbers_checked (line + 1) (replicate 3 (pos 0)) (replicate 3 (pos 2000000)) (take 3 (drop 3 values)) → found ≡ first_refused line (lines_of_kind 5 (row_of values))
       load_checked mark passed is = is ∙ sym (load_answer ∙ rw (← mark, ← passed))
 

@@ -85,7 +85,7 @@ rows_start table room held =
 
 module _
     {ids : List ℕ} {rows : List (List ℤ)} {starts₀ starts : List ℕ} {line i : ℕ} (so_far : RowsUnderWay ids rows starts₀ starts line i) where
-  pub rows_over : length rows ≤ i → (Ok tt) ≡ first_refused 9 (rows_lines [] (rows_in ids 0 rows))
+  pub rows_over : length rows ≤ i → Ok tt ≡ first_refused 9 (rows_lines [] (rows_in ids 0 rows))
   unfolding rows_in rows_lines
   rows_over h = sym (so_far.rest ∙ rw (drop_of_length-le rows {i = i} h) (first_none line))
 
