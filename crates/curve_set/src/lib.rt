@@ -55,7 +55,7 @@ pub fn voll_in_range(voll: i64) -> bool
     is_within(voll, LEAST_VOLL, GREATEST_VOLL)
 }
 
-// Whether the minimum contingency level X is in its range.
+// Whether the minimum contingency level X is in its range. What it has in common with VOLL is `is_within`; each name is one that contracts speak of.
 pub fn floor_in_range(floor: i64) -> bool
     ensures { result ≡ floor_in_range floor }
 {

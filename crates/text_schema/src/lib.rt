@@ -9,7 +9,7 @@ use text_number::{number_of, number_refusal};
 use text_refusal::refusal::Fault;
 
 // The lines that are due at a position, each a number under its key within its bounds, into the first places of `out`: as many lines as there are keys,
-// bounds and places.
+// bounds and places. Keys and bounds stay apart: `LinesRead` answers for slices of unequal lengths too.
 #[tactic(auto, using(crate::proofs::Schemas::lines_start, crate::proofs::Schemas::lines_full, crate::proofs::Schemas::lines_keys))]
 pub fn read_lines(
     text: &[u8],
