@@ -26,6 +26,7 @@ pub fn begins_with(text: &[u8], key: &[u8]) -> bool
 }
 
 // The value of the line that is due at a position, as a part of the text; no bytes where the line is refused, since an empty value is refused too.
+// The bytes and no Option: docs/STATEMENTS.md states it, and the laws `field_got`, `field_within` and `field_refused` stand on `value_at`.
 pub fn line_value<'a>(text: &'a [u8], at: usize, key: &[u8]) -> &'a [u8]
     ensures { result.now ≡ value_at key.now text.now at }
 {
@@ -44,7 +45,7 @@ pub fn line_value<'a>(text: &'a [u8], at: usize, key: &[u8]) -> &'a [u8]
 }
 
 // Why the line that is due at a position is refused: it lacks its byte 10 (3), does not begin with the key and its `=` (4), or has an empty value (5);
-// 0 where it has a value.
+// 0 where it has a value. The 0 and no Option: docs/STATEMENTS.md states it, and the laws `fault-value` and `fault_own` stand on it.
 pub fn line_fault(text: &[u8], at: usize, key: &[u8]) -> u64
     ensures { result ≡ line_fault key.now text.now at }
 {

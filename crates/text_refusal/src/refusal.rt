@@ -2,7 +2,8 @@
 ghost use Rattle.std.specs.Prelude.{◌≡◌};
 ghost use Rattle.text_refusal.specs.Refusal.{ended_lines, refusal_of};
 
-// A refusal within a text: its number in the checking order, and where the refused line starts.
+// A refusal within a text: its number in the checking order, and where the refused line starts. The number is document 01's own, and no enum: definitions, the
+// C interface and printed texts give it as it is.
 #[derive(Clone, Copy)]
 pub struct Fault {
     pub number: u64,
