@@ -52,12 +52,11 @@ pub fn price_text(input: &[u8], out: &mut [u8]) -> Option<usize>
         return write_refusal(out, Refusal { number: 2, line: 0 }, b"curves");
     }
     let end = empty_line(input);
-    let curves = match read_curves(&input[..end]) {
-        Ok(curves) => curves,
-        Err(found) => return write_refusal(out, found, b"curves"),
-    };
-    match price(curves, part(input, end + 1, input.len())) {
-        Ok(prices) => print_prices(prices, out),
-        Err(found) => write_refusal(out, found, b"snapshot"),
+    match read_curves(&input[..end]) {
+        Ok(curves) => match price(curves, part(input, end + 1, input.len())) {
+            Ok(prices) => print_prices(prices, out),
+            Err(found) => write_refusal(out, found, b"snapshot"),
+        },
+        Err(found) => write_refusal(out, found, b"curves"),
     }
 }
