@@ -7,10 +7,10 @@ use Rattle.integer.specs.Floor.{floor_div}
 use Rattle.integer.specs.Quadratic.{quadratic}
 use Rattle.root.specs.Root.{root_of, root_in, raised}
 use Rattle.curve_record.specs.declared.Group.{Group}
-use Rattle.text_refusal.specs.Answer.{refusal}
+use Rattle.text_refusal.specs.Answer.{answer_of, refusal}
 use Rattle.curve_record.specs.Record.{no_hours, fresh, group_at, with_group}
 use Rattle.curve_record.specs.Possible.{mean_of, squares_around, not_negative, possible}
-use Rattle.curve_booking.specs.Booking.{with_error, book_error}
+use Rattle.curve_booking.specs.Booking.{with_error, book_error, record_after}
 use Rattle.curve_settling.specs.Settle.{spread_of, settled_groups}
 
 -- the errors −1 and 2, and −1 and 0
@@ -23,11 +23,11 @@ minus_one_none = with_error (with_error no_hours (negsuc 0)) (pos 0)
 -- ---- booking
 
 -- an hour is booked on its own group and on no fixed one
-pub booked_on_its_group : group_at (book_error fresh 3 (pos 5)).history 3 ≡ record { count = 1; sum = pos 5; squares = pos 25 }
+pub booked_on_its_group : group_at (record_after fresh (book_error fresh 3 (pos 5))) 3 ≡ record { count = 1; sum = pos 5; squares = pos 25 }
 unfolding book_error with_error fresh group_at with_group
 booked_on_its_group = refl
 
-pub other_group_stays : group_at (book_error fresh 3 (pos 5)).history 0 ≡ no_hours
+pub other_group_stays : group_at (record_after fresh (book_error fresh 3 (pos 5))) 0 ≡ no_hours
 unfolding book_error with_error fresh group_at with_group
 other_group_stays = refl
 
@@ -37,11 +37,11 @@ unfolding with_error
 second_hour_counts = refl
 
 -- a full group and a far error: 10 comes before 11
-pub full_group_first : (book_error (with_group fresh 0 (record { count = 1000; sum = pos 0; squares = pos 0 })) 0 (pos 20000001)).answer ≡ refusal 10 0
+pub full_group_first : answer_of (book_error (with_group fresh 0 (record { count = 1000; sum = pos 0; squares = pos 0 })) 0 (pos 20000001)) ≡ refusal 10 0
 unfolding book_error fresh group_at with_group
 full_group_first = refl
 
-pub far_error : (book_error fresh 0 (pos 20000001)).answer ≡ refusal 11 0
+pub far_error : answer_of (book_error fresh 0 (pos 20000001)) ≡ refusal 11 0
 unfolding book_error fresh group_at with_group
 far_error = refl
 

@@ -18,8 +18,7 @@ use Rattle.pricing_adder.specs.Reserve.{twice_loads, twice_online, twice_all, di
 use Rattle.pricing_adder.specs.Price.{value_of_reserve, rounded, shortage_online, shortage_offline, prices_of, sums_priced}
 use Rattle.pricing_sums.specs.declared.Sums.{Sums}
 use Rattle.pricing_sums.specs.declared.header.Header.{Header}
-use Rattle.pricing_adder.specs.declared.price.Pricing.{Pricing}
-use Rattle.pricing_adder.specs.declared.price.Pricing.TheVariants as pricing
+use Rattle.pricing_adder.specs.Price.{Pricing}
 
 abbrev curves : ℤ → CurveSet
 curves mean = record { voll = pos 900000; floor = pos 2000000; pairs = replicate 24 (record { mean = mean; spread = pos 1000000 }) }
@@ -34,7 +33,7 @@ units = record { generation = pos 2707000; controllable = pos 0; offline = pos 2
 
 abbrev answer : ℤ → ℤ → ℕ → ℕ → ℕ → ℕ → Pricing
 answer rs rsns pis pins online offline =
-    pricing.Priced (record { rs = rs; rsns = rsns; pis = pis; pins = pins; online = online; offline = offline })
+    Ok (record { rs = rs; rsns = rsns; pis = pis; pins = pins; online = online; offline = offline })
 
 pub listings :
     -- as printed: each price is rounded once

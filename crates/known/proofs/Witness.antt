@@ -7,6 +7,9 @@ use lib.Dec.{lit<, lit≤}
 use lib.Signed.{◌≤ℤ◌, ≤ℤ_refl}
 use lib.ListN.{replicate}
 use lib.IntN.{ℤ, pos, negsuc, ◌-ℤ◌}
+use Rattle.std.specs.Prelude.{Result, Ok, Err}
+use Rattle.text_refusal.specs.Answer.{Answer, answer_of}
+use Rattle.text_refusal.specs.declared.refusal.Refusal.{Refusal}
 use Rattle.integer.specs.Floor.{floor_div}
 use Rattle.integer.specs.Order.{min_ℤ, max_ℤ}
 use Rattle.integer.proofs.Order.{pos-≤ℤ}
@@ -28,12 +31,9 @@ use Rattle.text_schema.specs.Schema.{repeated}
 use Rattle.curve_hour.specs.Hour.{HourAnswer, hour_of, read, hour_fields, run_fields, runs_of, hour_in, hour_ahead, sced_reserve, sced_sum, error_of}
 use Rattle.curve_record.specs.Record.{fresh, group_at, with_group, groups_from}
 use Rattle.curve_record.specs.Possible.{record_possible, all_possible, possible, mean_of, squares_around}
-use Rattle.curve_booking.specs.Booking.{kept, book_error, book_hour, with_error, booked}
+use Rattle.curve_booking.specs.Booking.{kept, record_after, book_error, book_hour, with_error, booked}
 use Rattle.curve_settling.specs.Settle.{spread_of, pair_of, settled_groups, settled}
 use Rattle.curve.specs.Lists.{booked_all, HourLowered, hour_lowered, both_accepted, ListsLowered}
-use Rattle.text_refusal.specs.declared.answer.Answer.{Answer}
-use Rattle.text_refusal.specs.declared.answer.Answer.TheVariants as answer
-use Rattle.curve_booking.specs.declared.Booking.{Booking}
 use Rattle.curve_record.specs.declared.Record.{Record}
 use Rattle.curve_set.specs.declared.CurveSet.{CurveSet}
 use Rattle.curve_set.specs.Curves.{curves_in_range, pairs_in_range}
@@ -43,7 +43,6 @@ use Rattle.pricing_snapshot.specs.Snapshot.{header_fields, Entry, resources_at, 
 use Rattle.pricing_adder.specs.Reserve.{twice_loads, twice_online, twice_all, discounted, online_reserve, total_reserve}
 use Rattle.pricing_adder.specs.Price.{value_of_reserve, rounded, shortage_online, shortage_offline, prices_of}
 use Rattle.pricing_adder.specs.declared.price.Prices.{Prices}
-use Rattle.pricing_adder.specs.declared.price.Pricing.TheVariants as pricing
 use Rattle.pricing_resource.specs.Online.{counted_online}
 use Rattle.pricing_resource.specs.Offline.{counted_offline}
 use Rattle.pricing_resource.specs.Suspect.{marks_turn_back, unmarked_before, suspect_place, suspect_from}
@@ -98,16 +97,19 @@ abbrev Reads : ℕ → List Plan → Type 0
 Reads d all = map (λ p. hour_in (hour_text d p)) all ≡ map (planned d) all
 
 -- booking a planned hour, which no text has to be read for
-abbrev book : ℕ → Record → Plan → Booking
-book d history p = cond (record_possible history) (book_hour history (planned d p)) (kept history 1 0)
+abbrev book : ℕ → Record → Plan → Result Record Refusal
+book d history p = cond (record_possible history) (book_hour history (planned d p)) (kept 1 0)
 
 unfoldable book_all : ℕ → Record → List Plan → Record
 book_all d history [] = history
-book_all d history (p ∷ all) = book_all d (book d history p).history all
+book_all d history (p ∷ all) = book_all d (record_after history (book d history p)) all
+
+abbrev accepted_answer : Answer
+accepted_answer = Ok tt
 
 unfoldable answers : ℕ → Record → List Plan → List Answer
 answers d history [] = []
-answers d history (p ∷ all) = (book d history p).answer ∷ answers d (book d history p).history all
+answers d history (p ∷ all) = answer_of (book d history p) ∷ answers d (record_after history (book d history p)) all
 
 booked_as : (d : ℕ) (history : Record) (p : Plan) → hour_in (hour_text d p) ≡ planned d p → booked history (hour_text d p) ≡ book d history p
 unfolding booked
@@ -117,13 +119,13 @@ booked_all_lem : (d : ℕ) (history : Record) (all : List Plan) → Reads d all 
 unfolding booked_all book_all
 booked_all_lem d history [] reads = refl
 booked_all_lem d history (p ∷ all) reads =
-    ap (λ (b : Booking). booked_all b.history (map (hour_text d) all)) (booked_as d history p (cc)) ∙ booked_all_lem d (book d history p).history all (cc)
+    ap (λ (b : Result Record Refusal). booked_all (record_after history b) (map (hour_text d) all)) (booked_as d history p (cc)) ∙ booked_all_lem d (record_after history (book d history p)) all (cc)
 
 -- lists whose texts give the planned hours, all of them accepted
 lowered :
     (d : ℕ) (history history' : Record) (all : List Plan) → Reads 0 all → Reads d all →
     map (λ p. hour_ahead (hour_of (hour_values d p))) all ≡ map (λ p. hour_ahead (hour_of (hour_values 0 p)) -ℤ pos d) all →
-    answers 0 history all ≡ map (λ p. answer.Accepted) all → answers d history' all ≡ map (λ p. answer.Accepted) all →
+    answers 0 history all ≡ map (λ p. accepted_answer) all → answers d history' all ≡ map (λ p. accepted_answer) all →
     ListsLowered d history history' (map (hour_text 0) all) (map (hour_text d) all)
 unfolding answers
 lowered d history history' [] reads reads' less accepted accepted' = tt
@@ -131,13 +133,13 @@ lowered d history history' (p ∷ all) reads reads' less accepted accepted' =
     let given : hour_in (hour_text 0 p) ≡ planned 0 p = cc in
     let given' : hour_in (hour_text d p) ≡ planned d p = cc in
     let falls : hour_ahead (hour_of (hour_values d p)) ≡ hour_ahead (hour_of (hour_values 0 p)) -ℤ pos d = cc in
-    let yes : (book 0 history p).answer ≡ answer.Accepted = cc in
-    let yes' : (book d history' p).answer ≡ answer.Accepted = cc in
+    let yes : answer_of (book 0 history p) ≡ accepted_answer = cc in
+    let yes' : answer_of (book d history' p) ≡ accepted_answer = cc in
     let place : HourLowered d (hour_in (hour_text 0 p)) (hour_in (hour_text d p)) =
     rw (given, given') (hour_lowered (hour_of (hour_values 0 p)) (hour_of (hour_values d p)) (runs_of 1 run_values) refl refl refl refl falls) in
     rw (booked_as 0 history p given, booked_as d history' p given') (
       rw (yes, yes') (both_accepted place),
-      lowered d (book 0 history p).history (book d history' p).history all (cc) (cc) (cc) (cc) (cc),
+      lowered d (record_after history (book 0 history p)) (record_after history' (book d history' p)) all (cc) (cc) (cc) (cc) (cc),
     )
 
 -- ---- computed
@@ -156,7 +158,7 @@ abbrev curves : ℤ → CurveSet
 curves mean = record { voll = pos 900000; floor = pos 2000000; pairs = replicate 24 (record { mean = mean; spread = pos 1000000 }) }
 
 abbrev SettledTo : Record → ℤ → Type 0
-SettledTo history mean = settled history (pos 900000) (pos 2000000) ≡ record { set = curves mean; answer = answer.Accepted }
+SettledTo history mean = settled history (pos 900000) (pos 2000000) ≡ Ok (curves mean)
 
 planned_settled : SettledTo (book_all 0 fresh (plans 24)) (pos 0) × SettledTo (book_all 1000 fresh (plans 24)) (negsuc 999)
 unfolding plans book_all runs_of floor_div quadratic season_of block_of group_of hour_ahead sced_reserve sced_sum error_of fresh group_at with_group groups_from record_possible all_possible possible mean_of squares_around book_error with_error settled settled_groups spread_of pair_of root_of root_in raised
@@ -250,18 +252,20 @@ abbrev pub second : Prices
 second = record { rs = pos 2710000; rsns = pos 3010000; pis = 157463369; pins = 156009304; online = 140671; offline = 70009 }
 
 prices :
-    (priced (curves (pos 0)) snapshot ≡ pricing.Priced first) × (priced (curves (negsuc 999)) raised_snapshot ≡ pricing.Priced second)
+    (priced (curves (pos 0)) snapshot ≡ Ok first) × (priced (curves (negsuc 999)) raised_snapshot ≡ Ok second)
 unfolding unit priced curves_in_range pairs_in_range sums_of part_of counted_online counted_offline plus prices_of value_of_reserve rounded shortage_online shortage_offline online_probability offline_probability normal upper interpolated knot group_of season_of block_of online_reserve total_reserve discounted twice_online twice_all twice_loads floor_div min_ℤ max_ℤ
 prices = (rw snapshots_read.0, rw snapshots_read.1)
 
 -- two lists and two snapshots that meet all that demand 3 asks, with both prices of the second below the first's
 pub record Falling (d : ℕ) (texts texts' : List (List ℕ)) (voll floor : ℤ) (text text' : List ℕ) (one two : Prices) : Type 0 where
   pub lists : ListsLowered d fresh fresh texts texts'
-  pub accepted : (settled (booked_all fresh texts) voll floor).answer ≡ answer.Accepted
-  pub accepted' : (settled (booked_all fresh texts') voll floor).answer ≡ answer.Accepted
+  pub settled_first : CurveSet
+  pub settled_second : CurveSet
+  pub accepted : settled (booked_all fresh texts) voll floor ≡ Ok settled_first
+  pub accepted' : settled (booked_all fresh texts') voll floor ≡ Ok settled_second
   pub up : SnapshotRaised (snapshot_in text) (snapshot_in text')
-  pub priced_first : priced (settled (booked_all fresh texts) voll floor).set text ≡ pricing.Priced one
-  pub priced_second : priced (settled (booked_all fresh texts') voll floor).set text' ≡ pricing.Priced two
+  pub priced_first : priced settled_first text ≡ Ok one
+  pub priced_second : priced settled_second text' ≡ Ok two
   pub online_falls : two.online < one.online
   pub offline_falls : two.offline < one.offline
 
@@ -269,11 +273,13 @@ pub falling : Falling 1000 (hours 0) (hours 1000) (pos 900000) (pos 2000000) sna
 falling =
     record {
       lists = lists_lowered;
-      accepted = rw both_settled.0;
-      accepted' = rw both_settled.1;
+      settled_first = curves (pos 0);
+      settled_second = curves (negsuc 999);
+      accepted = both_settled.0;
+      accepted' = both_settled.1;
       up = snapshot_up;
-      priced_first = rw both_settled.0 prices.0;
-      priced_second = rw both_settled.1 prices.1;
+      priced_first = prices.0;
+      priced_second = prices.1;
       online_falls = lit< tt;
       offline_falls = lit< tt;
     }

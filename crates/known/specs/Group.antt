@@ -3,7 +3,7 @@ use Rattle.std.specs.Prelude.{ℕ, List, [], ◌∷◌, ◌++◌, map, ℤ, pos,
 use Rattle.text_refusal.specs.Bytes.{bytes}
 use Rattle.curve_group.specs.Season.{group_of}
 use Rattle.curve_record.specs.Record.{fresh, all_groups}
-use Rattle.curve_booking.specs.Booking.{booked}
+use Rattle.curve_booking.specs.Booking.{booked, record_after}
 use Rattle.known.specs.Probability.{single}
 
 -- a month and an hour, and their group
@@ -18,7 +18,7 @@ july_hour =
 
 -- how many hours each group has once a text is booked on a fresh record
 abbrev pub counts_after : List ℕ → List ℤ
-counts_after text = map (λ group. pos group.count) (all_groups (booked fresh text).history)
+counts_after text = map (λ group. pos group.count) (all_groups (record_after fresh (booked fresh text)))
 
 unfoldable pub group_values : List (List ℤ × List ℤ)
 group_values =

@@ -1,9 +1,8 @@
 -- Document 02, W-204: snapshots held as values, each with what writing it is to give, worked out by hand.
-use Rattle.std.specs.Prelude.{ℕ, ◌-◌, List, [], ◌∷◌, ◌++◌, map, ℤ, pos, neg_ℤ, length, replicate}
+use Rattle.text_refusal.specs.Answer.{Answer}
+use Rattle.std.specs.Prelude.{ℕ, ◌-◌, List, [], ◌∷◌, ◌++◌, map, ℤ, pos, neg_ℤ, length, replicate, Ok, Err}
 use Prim.Native.String.{String}
 use Rattle.text_refusal.specs.Bytes.{bytes}
-use Rattle.text_refusal.specs.declared.answer.Answer.{Answer}
-use Rattle.text_refusal.specs.declared.answer.Answer.TheVariants as answer
 use Rattle.pricing_held.specs.Lines.{held_answer, held_text}
 
 -- a row of bytes: the id, byte 0, and bytes that are not looked at
@@ -28,8 +27,8 @@ load rrs = row (pos 5) (pos 9) (pos 1) (pos 10) (pos 0) rrs (pos 5000000) (neg_�
 
 -- refused by a number at a line; or 0, 0 and the bytes of the text
 abbrev outcome_of : Answer → List ℕ → List ℤ
-outcome_of answer.Accepted text = pos 0 ∷ pos 0 ∷ map pos text
-outcome_of (answer.Refused found) text = pos found.number ∷ pos found.line ∷ []
+outcome_of (Ok accepted) text = pos 0 ∷ pos 0 ∷ map pos text
+outcome_of (Err found) text = pos found.number ∷ pos found.line ∷ []
 
 abbrev claim : List ℕ → List ℤ → List ℤ → List ℤ × List ℤ
 claim ids numbers expected = (outcome_of (held_answer header ids numbers) (held_text header ids numbers), expected)

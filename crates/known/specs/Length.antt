@@ -1,15 +1,14 @@
 -- Document 02, W-205: the length of a curve set's text, worked out by hand. The keys with `=`, and byte 10 of each line, have 277 bytes: 6 with `voll=`, 7 with `floor=`,
 -- and 24 times 4 with `mu=` and 7 with `sigma=`. The rest is numbers.
-use Rattle.std.specs.Prelude.{List, [], ◌∷◌, ℤ, pos, neg_ℤ}
+use Rattle.text_refusal.specs.declared.refusal.Refusal.{Refusal}
+use Rattle.std.specs.Prelude.{List, [], ◌∷◌, ℤ, pos, neg_ℤ, Result, Ok, Err}
 use Rattle.curve_set.specs.Curves.{even_curves}
 use Rattle.curve_text.specs.Length.{curves_length}
-use Rattle.curve_text.specs.declared.WrittenCurves.{WrittenCurves}
-use Rattle.curve_text.specs.declared.WrittenCurves.TheVariants as written
 
 -- 0, 0 and the length; or refused by a number at a line
-abbrev length_outcome : WrittenCurves → List ℤ
-length_outcome (written.Length length) = pos 0 ∷ pos 0 ∷ pos length ∷ []
-length_outcome (written.Refused found) = pos found.number ∷ pos found.line ∷ []
+abbrev length_outcome : Result ℕ Refusal → List ℤ
+length_outcome (Ok length) = pos 0 ∷ pos 0 ∷ pos length ∷ []
+length_outcome (Err found) = pos found.number ∷ pos found.line ∷ []
 
 -- a set with the same pair in each group
 abbrev long : ℤ → ℤ → ℤ → ℤ → ℤ → List ℤ × List ℤ

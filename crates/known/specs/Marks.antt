@@ -3,7 +3,8 @@ use Rattle.std.specs.Prelude.{ℕ, true, false, List, [], ◌∷◌, ◌++◌, �
 use Prim.Native.String.{String}
 use Rattle.text_refusal.specs.Bytes.{bytes}
 use Rattle.text_line.specs.Judged.{Judged, good, bad}
-use Rattle.text_number.specs.Marked.{Marked, marked_field}
+use Rattle.text_number.specs.declared.marked.Marked.{Marked}
+use Rattle.text_number.specs.Marked.{marked_field}
 use Rattle.known.specs.Pricing.{claim, loads, with_readings}
 use Rattle.known.specs.Held.{id_of, written, refused}
 

@@ -3,14 +3,13 @@ use Rattle.std.specs.Prelude.{ℕ, List, [], ◌∷◌, ◌++◌, ℤ, pos, negs
 use Rattle.text_refusal.specs.Bytes.{bytes}
 use Rattle.curve_set.specs.declared.CurveSet.{CurveSet}
 use Rattle.pricing_adder.specs.Price.{price_values}
-use Rattle.pricing_adder.specs.declared.price.Pricing.{Pricing}
-use Rattle.pricing_adder.specs.declared.price.Pricing.TheVariants as pricing
+use Rattle.pricing_adder.specs.Price.{Pricing}
 use Rattle.pricing.specs.Pricing.{priced}
 
 -- document 01's numbers for each case of a pricing: `rs rsns pis pins online offline`, or the refusal's number and its line
 abbrev pub printed : Pricing → List ℤ
-printed (pricing.Priced p) = price_values p
-printed (pricing.Refused found) = pos found.number ∷ pos found.line ∷ []
+printed (Ok p) = price_values p
+printed (Err found) = pos found.number ∷ pos found.line ∷ []
 
 -- voll 900000, floor 2000000, all pairs 0 and 1000000
 abbrev pub listed_curves : CurveSet

@@ -4,11 +4,13 @@ use native.Mathlib.Numerals.{add-one}
 use native.Mathlib.Omega.{arith}
 use mathlib.Core.Bool.{Bool, true, false}
 use mathlib.Core.List.{List, [], ◌∷◌, ◌++◌, append_assoc}
-use mathlib.Core.Path.{◌≡◌, refl}
+use mathlib.Core.Path.{◌≡◌, refl, sym, ◌∙◌}
 use borrow.Author.Tests.{le-ltb}
 use lib.IntN.{ℤ, pos, negsuc}
 use lib.ListN.{length, take, drop, get_or, set}
 use lib.Seq.{drop-cons, drop-drop, get_or-drop, lt-length-set, take-suc-set}
+use Rattle.std.specs.Prelude.{Result, Ok, Err}
+use Rattle.text_refusal.specs.declared.refusal.Refusal.{Refusal}
 use Rattle.text_schema.specs.Schema.{value}
 use Rattle.curve_record.specs.Record.{no_hours}
 use Rattle.curve_record.specs.Possible.{possible, record_possible}
@@ -17,7 +19,6 @@ use Rattle.curve_record.proofs.PossibleGroups.{possible_at, possible_is}
 use Rattle.curve_booking.specs.Booking.{booked}
 use Rattle.curve_booking.proofs.Booked.{booked_impossible}
 use Rattle.curve_booking.proofs.Closure.{booked-possible}
-use Rattle.text_refusal.specs.declared.answer.Answer.TheVariants as answer
 use Rattle.curve_record.specs.declared.Group.{Group}
 use Rattle.curve_record.specs.declared.Record.{Record}
 use Rattle.ordc.specs.Record.{count_of, groups_of, group_values, record_of}
@@ -100,9 +101,10 @@ pub record_is_written_back : RecordIsWrittenBack
 record_is_written_back values l e = values_of_groups 24 values l (λ i h. rw (group_held (record_of values) i) at (possible_at (record_of values) e i h))
 
 -- an accepted booking has a record that is not impossible
-pub accepted_possible : (history : Record) (text : List ℕ) → (booked history text).answer ≡ answer.Accepted → record_possible (booked history text).history ≡ true
-accepted_possible history text = go (record_possible history) refl
+pub accepted_possible : (history : Record) (text : List ℕ) (after : Record) → booked history text ≡ Ok after → record_possible after ≡ true
+accepted_possible history text after is = go (record_possible history) refl
   where
-    go : (b : Bool) → record_possible history ≡ b → (booked history text).answer ≡ answer.Accepted → record_possible (booked history text).history ≡ true
-    go true e = λ _. booked-possible history text e
-    go false e = rw (booked_impossible history text e) (λ (n : answer.Refused (record { number = 1; line = 0 }) ≡ answer.Accepted). let z : ◌≡◌ {A = ℕ} 0 1 = cc in absurd (omega arith))
+    go : (b : Bool) → record_possible history ≡ b → record_possible after ≡ true
+    go true e = rw is at (booked-possible history text e)
+    go false e =
+        let n : ◌≡◌ {A = Result Record Refusal} (Err (record { number = 1; line = 0 })) (Ok after) = sym (booked_impossible history text e) ∙ is in cc

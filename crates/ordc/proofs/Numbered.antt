@@ -8,9 +8,8 @@ use borrow.Author.Tests.{ne_eqb}
 use lib.Dec.{eqb, leb}
 use lib.IntN.{ℤ}
 use lib.ListN.{length}
-use Rattle.text_refusal.specs.Answer.{refusal, followed_by}
-use Rattle.text_refusal.specs.declared.answer.Answer.{Answer}
-use Rattle.text_refusal.specs.declared.answer.Answer.TheVariants as answer
+use Rattle.std.specs.Prelude.{Ok, Err}
+use Rattle.text_refusal.specs.Answer.{Answer, answer_of, refusal, followed_by}
 use Rattle.text_schema.specs.Checked.{first_refused}
 use Rattle.text_schema.proofs.Checked.{first_numbered}
 use Rattle.curve_text.specs.CurveText.{read_curves, writing_curves, writing_answer}
@@ -29,8 +28,7 @@ use Rattle.pricing_held.proofs.Definitions.{held_answer_is}
 use Rattle.pricing_held_reading.specs.Reading.{reading_answer}
 use Rattle.pricing_held_reading.proofs.Definitions.{reading_held_is}
 use Rattle.pricing_held_text.proofs.Cases.{writing_held_is}
-use Rattle.pricing_adder.specs.declared.price.Pricing.{Pricing}
-use Rattle.pricing_adder.specs.declared.price.Pricing.TheVariants as pricing
+use Rattle.pricing_adder.specs.Price.{Pricing}
 use Rattle.ordc.specs.Price.{pricing_answer}
 use Rattle.ordc.specs.Promises.{Numbered, RefusalsAreNumbered}
 
@@ -38,19 +36,19 @@ not_none : (n : ℕ) → 1 ≤ n → eqb n 0 ≡ false
 not_none n some = ne_eqb n 0 (λ e. omega arith)
 
 numbered : (found : Answer) → AnswerNumbered found → Numbered found
-numbered answer.Accepted n = tt
-numbered (answer.Refused found) n = not_none found.number n.0
+numbered (Ok accepted) n = tt
+numbered (Err found) n = not_none found.number n.0
 
 listed : (text : List ℕ) (found : Answer) → AnswerListed text found → Numbered found
-listed text answer.Accepted n = tt
-listed text (answer.Refused found) n = not_none found.number n.least
+listed text (Ok accepted) n = tt
+listed text (Err found) n = not_none found.number n.least
 
 listed_pricing : (text : List ℕ) (found : Pricing) → PricingListed text found → Numbered (pricing_answer found)
-listed_pricing text (pricing.Priced prices) n = tt
-listed_pricing text (pricing.Refused found) n = not_none found.number n.least
+listed_pricing text (Ok prices) n = tt
+listed_pricing text (Err found) n = not_none found.number n.least
 
 -- nothing, or too little room
-room_numbered : (b : Bool) → Numbered (cond b answer.Accepted (refusal 14 0))
+room_numbered : (b : Bool) → Numbered (cond b (Ok tt) (refusal 14 0))
 room_numbered true = tt
 room_numbered false = refl
 
@@ -59,7 +57,7 @@ listed_reading text rows (refused_by found) n = not_none found.number n.least
 listed_reading text rows (read h entries) n = room_numbered (leb (length entries) rows)
 
 -- the first line that a mark turns back, or none
-suspect_numbered : (b : Bool) (line : ℕ) → Numbered (cond b answer.Accepted (refusal 15 line))
+suspect_numbered : (b : Bool) (line : ℕ) → Numbered (cond b (Ok tt) (refusal 15 line))
 suspect_numbered true line = tt
 suspect_numbered false line = refl
 
@@ -70,19 +68,19 @@ held_numbered header ids numbers = rw (held_answer_is header ids numbers) (go (f
     line = suspect_line (resources_of (contents_held header ids numbers).entries)
 
     go : (found : Answer) → first_refused 1 (held_lines header ids numbers) ≡ found → Numbered (followed_by found (suspect_answer line))
-    go answer.Accepted e = suspect_numbered (eqb line 0) line
-    go (answer.Refused found) e = first_numbered 1 (held_lines header ids numbers) e
+    go (Ok accepted) e = suspect_numbered (eqb line 0) line
+    go (Err found) e = first_numbered 1 (held_lines header ids numbers) e
 
-followed_numbered : (found : Answer) (room : Bool) → Numbered found → Numbered (followed_by found (cond room answer.Accepted (refusal 14 0)))
-followed_numbered answer.Accepted room n = room_numbered room
-followed_numbered (answer.Refused found) room n = n
+followed_numbered : (found : Answer) (room : Bool) → Numbered found → Numbered (followed_by found (cond room (Ok tt) (refusal 14 0)))
+followed_numbered (Ok accepted) room n = room_numbered room
+followed_numbered (Err found) room n = n
 
 pub refusals_are_numbered : RefusalsAreNumbered
 refusals_are_numbered =
     record {
-      booking = λ history text. numbered (booked history text).answer (booked_numbered history text);
-      settling = λ history voll floor. numbered (settled history voll floor).answer (settled_numbered history voll floor);
-      reading = λ text. listed text (read_curves text).answer (curves_listed text);
+      booking = λ history text. numbered (answer_of (booked history text)) (booked_numbered history text);
+      settling = λ history voll floor. numbered (answer_of (settled history voll floor)) (settled_numbered history voll floor);
+      reading = λ text. listed text (answer_of (read_curves text)) (curves_listed text);
       measuring_curves = λ curves. numbered (writing_answer (curves_length curves)) (length_numbered curves);
       writing = λ curves buffer. numbered (writing_answer (writing_curves curves buffer)) (writing_numbered curves buffer);
       page = λ curves buffer. numbered (writing_page curves buffer) (page_numbered curves buffer);

@@ -4,16 +4,14 @@ use native.Mathlib.Omega.{arith}
 use mathlib.Core.List.{List}
 use lib.IntN.{ℤ}
 use mathlib.Core.Path.{◌≡◌, refl, sym, ap, ◌∙◌}
+use Rattle.std.specs.Prelude.{Result, Ok, Err}
+use Rattle.text_refusal.specs.Answer.{Answer, answer_of}
 use Rattle.text_refusal.specs.declared.refusal.Refusal.{Refusal}
 use Rattle.curve_set.specs.CurveValues.{curves_of}
 use Rattle.curve_set.proofs.CurveValues.{pairs_of-length}
-use Rattle.text_refusal.specs.declared.answer.Answer.{Answer}
-use Rattle.text_refusal.specs.declared.answer.Answer.TheVariants as answer
 use Rattle.curve_set.specs.declared.CurveSet.{CurveSet}
 use Rattle.curve_text.specs.CurveText.{read_curves, writing_curves, writing_answer, written_length, written_buffer}
 use Rattle.curve_text.specs.Length.{curves_length}
-use Rattle.curve_text.specs.declared.WrittenCurves.{WrittenCurves}
-use Rattle.curve_text.specs.declared.WrittenCurves.TheVariants as written
 use Rattle.curve_page.specs.Page.{writing_page}
 use Rattle.curve.specs.FirstRefusal.{Writing, WritingCurvesCase, set_impossible, buffer_short, text_written}
 use Rattle.curve.proofs.FirstRefusal.{writing_curves_is_refused_first}
@@ -57,33 +55,33 @@ call_ends {A} {before} {given} {after} {r} ended n called =
       numbered = λ none. go none (ended_by ended n called);
     }
   where
-    left : (found : Refusal) → ended ≡ answer.Refused found → Ended ended before given after r → after ≡ before
+    left : (found : Refusal) → ended ≡ Err found → Ended ended before given after r → after ≡ before
     left found e (ended_accepted is none laid) = let z : ◌≡◌ {A = ℕ} 0 1 = cc (sym is ∙ e) in absurd (omega arith)
     left found e (ended_refused other is told number same) = same
 
-    go : r.number ≡ 0 → Ended ended before given after r → ended ≡ answer.Accepted
+    go : r.number ≡ 0 → Ended ended before given after r → ended ≡ Ok tt
     go none (ended_accepted is number laid) = is
     go none (ended_refused found is told number same) = absurd (number none)
 
 pub book_call_is_refused_first : BookCallIsRefusedFirst
-book_call_is_refused_first before after text r called = call_ends (booked (record_of before) text).answer (refusals_are_numbered.booking (record_of before) text) called
+book_call_is_refused_first before after text r called = call_ends (answer_of (booked (record_of before) text)) (refusals_are_numbered.booking (record_of before) text) called
 
 pub settle_call_is_refused_first : SettleCallIsRefusedFirst
 settle_call_is_refused_first history before after voll floor r called =
-    call_ends (settled (record_of history) voll floor).answer (refusals_are_numbered.settling (record_of history) voll floor) called
+    call_ends (answer_of (settled (record_of history) voll floor)) (refusals_are_numbered.settling (record_of history) voll floor) called
 
 pub read_curves_call_is_refused_first : ReadCurvesCallIsRefusedFirst
-read_curves_call_is_refused_first before after text r called = call_ends (read_curves text).answer (refusals_are_numbered.reading text) called
+read_curves_call_is_refused_first before after text r called = call_ends (answer_of (read_curves text)) (refusals_are_numbered.reading text) called
 
 pub curves_length_call_is_refused_first : CurvesLengthCallIsRefusedFirst
 curves_length_call_is_refused_first values before after r called =
     call_ends (writing_answer (curves_length (curves_of values))) (refusals_are_numbered.measuring_curves (curves_of values)) called
 
 -- a refused writing leaves the buffer
-refused_leaves : (curves : CurveSet) (buffer : List ℕ) {found : Refusal} → writing_answer (writing_curves curves buffer) ≡ answer.Refused found → written_buffer curves buffer ≡ buffer
+refused_leaves : (curves : CurveSet) (buffer : List ℕ) {found : Refusal} → writing_answer (writing_curves curves buffer) ≡ Err found → written_buffer curves buffer ≡ buffer
 refused_leaves curves buffer {found} = go (writing_curves_is_refused_first curves buffer).applies
   where
-    go : {after : Writing} → WritingCurvesCase curves buffer after → after.answer ≡ answer.Refused found → after.buffer ≡ buffer
+    go : {after : Writing} → WritingCurvesCase curves buffer after → after.answer ≡ Err found → after.buffer ≡ buffer
     go (set_impossible out) e = refl
     go (buffer_short inside short) e = refl
     go (text_written inside room) e = let z : ◌≡◌ {A = ℕ} 0 1 = cc in absurd (omega arith)
@@ -101,14 +99,14 @@ write_curves_call_is_refused_first values buffer buffer' before after r called =
     )
 
 -- the length that an accepted call told
-told_length : (values : List ℤ) (lent told : ℕ) (asked : Reply) → CurvesLengthCalled values lent told asked → Accepted asked → curves_length (curves_of values) ≡ written.Length told
+told_length : (values : List ℤ) (lent told : ℕ) (asked : Reply) → CurvesLengthCalled values lent told asked → Accepted asked → curves_length (curves_of values) ≡ Ok told
 told_length values lent told asked called accepted =
     let ends = curves_length_call_is_refused_first values lent told asked called in
     go (curves_length (curves_of values)) (ends.numbered accepted) (ends.accepted (ends.numbered accepted)).1
   where
-    go : (ended : WrittenCurves) → writing_answer ended ≡ answer.Accepted → told ≡ written_length ended → ended ≡ written.Length told
-    go (written.Length length) e same = ap written.Length (sym same)
-    go (written.Refused found) e same = let z : ◌≡◌ {A = ℕ} 0 1 = cc in absurd (omega arith)
+    go : (ended : Result ℕ Refusal) → writing_answer ended ≡ Ok tt → told ≡ written_length ended → ended ≡ Ok told
+    go (Ok length) e same = ap Ok (sym same)
+    go (Err found) e same = let z : ◌≡◌ {A = ℕ} 0 1 = cc in absurd (omega arith)
 
 pub write_curves_call_takes_the_told_length : WriteCurvesCallTakesTheToldLength
 write_curves_call_takes_the_told_length values lent told asked called accepted buffer buffer' before after r writing =

@@ -1,34 +1,30 @@
 -- Named statements over what hosts call: the layouts, demand 1 with the number by which hosts know a refusal, the length of a curve text (document 02, W-205), and
 -- demand 3.
-use Rattle.std.specs.Prelude.{ℕ, ◌≤◌, ◌<◌, true, false, List, ◌≡◌, eqb, ℤ, pos, length, take, drop, ◌≤ℤ◌}
+use Rattle.text_refusal.specs.Answer.{Answer, answer_of}
+use Rattle.std.specs.Prelude.{ℕ, ◌≤◌, ◌<◌, true, false, List, ◌≡◌, eqb, ℤ, pos, length, take, drop, ◌≤ℤ◌, Result, Ok, Err}
 use Rattle.text_refusal.specs.declared.refusal.Refusal.{Refusal}
 use Rattle.text_schema.specs.Schema.{laid_over}
 use Rattle.text_writer.specs.Write.{laid_at}
 use Rattle.curve_set.specs.CurveValues.{curve_values, curves_of}
 use Rattle.curve_set.specs.declared.CurveSet.{CurveSet}
-use Rattle.curve_set.specs.declared.Curves.{Curves}
-use Rattle.text_refusal.specs.declared.answer.Answer.{Answer}
-use Rattle.text_refusal.specs.declared.answer.Answer.TheVariants as answer
 use Rattle.curve_text.specs.CurveText.{read_curves, curve_text, writing_curves, writing_answer, written_length, written_buffer}
 use Rattle.curve_text.specs.Length.{curves_length}
-use Rattle.curve_text.specs.declared.WrittenCurves.{WrittenCurves}
 use Rattle.curve_page.specs.Page.{writing_page, page_buffer}
 use Rattle.curve_record.specs.Possible.{record_possible}
 use Rattle.curve_record.specs.declared.Record.{Record}
 use Rattle.curve_settling.specs.Settle.{settled}
-use Rattle.curve_booking.specs.Booking.{booked}
-use Rattle.curve_booking.specs.declared.Booking.{Booking}
+use Rattle.curve_booking.specs.Booking.{booked, record_after}
 use Rattle.pricing_sums.specs.declared.header.Header.{Header}
 use Rattle.pricing_snapshot.specs.Snapshot.{Entry, read, snapshot_in}
 use Rattle.pricing_held.specs.Lines.{held_answer, held_text}
 use Rattle.pricing_held_reading.specs.Reading.{id_rows, number_rows, reading_held, header_read, entries_read}
 use Rattle.pricing_held_text.specs.Writing.{writing_held}
 use Rattle.pricing_adder.specs.Price.{value_of_reserve, pricing_values}
-use Rattle.pricing_adder.specs.declared.price.Pricing.{Pricing}
+use Rattle.pricing_adder.specs.Price.{Pricing}
 use Rattle.pricing.specs.Pricing.{priced}
 use Rattle.pricing.specs.Promises.{SnapshotRaised}
 use Rattle.ordc.specs.Record.{record_of, record_values, BookCalled, SettleCalled}
-use Rattle.ordc.specs.CurveText.{ReadCurvesCalled, CurvesLengthCalled, WriteCurvesCalled}
+use Rattle.ordc.specs.CurveText.{values_given, ReadCurvesCalled, CurvesLengthCalled, WriteCurvesCalled}
 use Rattle.ordc.specs.Page.{WritePageCalled}
 use Rattle.ordc.specs.Price.{pricing_answer, PriceCalled, online_price, offline_price}
 use Rattle.ordc.specs.Snapshot.{ReadSnapshotCalled, SnapshotLengthCalled, WriteSnapshotCalled}
@@ -57,14 +53,14 @@ CurveSetIsWrittenBack = (values : List ℤ) → length values ≡ 50 → curve_v
 
 -- a refusal has a number other than 0
 abbrev pub Numbered : Answer → Type 0
-Numbered answer.Accepted = Unit
-Numbered (answer.Refused found) = eqb found.number 0 ≡ false
+Numbered (Ok accepted) = Unit
+Numbered (Err found) = eqb found.number 0 ≡ false
 
 -- number 0 means accepted, whatever is called with whatever is lent
 pub record RefusalsAreNumbered : Type 0 where
-  pub booking : (history : Record) (text : List ℕ) → Numbered (booked history text).answer
-  pub settling : (history : Record) (voll floor : ℤ) → Numbered (settled history voll floor).answer
-  pub reading : (text : List ℕ) → Numbered (read_curves text).answer
+  pub booking : (history : Record) (text : List ℕ) → Numbered (answer_of (booked history text))
+  pub settling : (history : Record) (voll floor : ℤ) → Numbered (answer_of (settled history voll floor))
+  pub reading : (text : List ℕ) → Numbered (answer_of (read_curves text))
   pub measuring_curves : (curves : CurveSet) → Numbered (writing_answer (curves_length curves))
   pub writing : (curves : CurveSet) (buffer : List ℕ) → Numbered (writing_answer (writing_curves curves buffer))
   pub page : (curves : CurveSet) (buffer : List ℕ) → Numbered (writing_page curves buffer)
@@ -76,44 +72,44 @@ pub record RefusalsAreNumbered : Type 0 where
 -- how a call ends, by the answer of the operation that it calls: the refusal first in document 01's order, or none; nothing else is refused
 pub record CallEnds {A : Type 0} (ended : Answer) (before given after : A) (r : Reply) : Type 0 where
   -- an accepted call has number 0 and line 0, and what is lent is what the operation gives
-  pub accepted : ended ≡ answer.Accepted → (r ≡ record { number = 0; line = 0 }) × (after ≡ given)
+  pub accepted : ended ≡ Ok tt → (r ≡ record { number = 0; line = 0 }) × (after ≡ given)
   -- a refused one has the refusal's number and line, and what is lent stands as before
-  pub refused : (found : Refusal) → ended ≡ answer.Refused found → (r ≡ record { number = found.number; line = found.line }) × (after ≡ before)
+  pub refused : (found : Refusal) → ended ≡ Err found → (r ≡ record { number = found.number; line = found.line }) × (after ≡ before)
   -- number 0 means accepted
-  pub numbered : Accepted r → ended ≡ answer.Accepted
+  pub numbered : Accepted r → ended ≡ Ok tt
 
 -- `ordc_book` is refused as the booking is, and then leaves the record
 abbrev pub BookCallIsRefusedFirst : Type 0
 BookCallIsRefusedFirst =
     (before after : List ℤ) (text : List ℕ) (r : Reply) → BookCalled before text after r →
-    let booking : Booking = booked (record_of before) text in
-    CallEnds booking.answer before (record_values booking.history) after r
+    let booking : Result Record Refusal = booked (record_of before) text in
+    CallEnds (answer_of booking) before (record_values (record_after (record_of before) booking)) after r
 
 -- `ordc_settle` is refused as the settling is, and then leaves the curve set
 abbrev pub SettleCallIsRefusedFirst : Type 0
 SettleCallIsRefusedFirst =
     (history before after : List ℤ) (voll floor : ℤ) (r : Reply) → SettleCalled history voll floor before after r →
-    let curves : Curves = settled (record_of history) voll floor in
-    CallEnds curves.answer before (curve_values curves.set) after r
+    let curves : Result CurveSet Refusal = settled (record_of history) voll floor in
+    CallEnds (answer_of curves) before (values_given curves) after r
 
 -- `ordc_read_curves` is refused as the reading is, and then leaves the curve set
 abbrev pub ReadCurvesCallIsRefusedFirst : Type 0
 ReadCurvesCallIsRefusedFirst =
     (before after : List ℤ) (text : List ℕ) (r : Reply) → ReadCurvesCalled text before after r →
-    CallEnds (read_curves text).answer before (curve_values (read_curves text).set) after r
+    CallEnds (answer_of (read_curves text)) before (values_given (read_curves text)) after r
 
 -- `ordc_curves_length` is refused as the length is, and then leaves the length that is lent
 abbrev pub CurvesLengthCallIsRefusedFirst : Type 0
 CurvesLengthCallIsRefusedFirst =
     (values : List ℤ) (before after : ℕ) (r : Reply) → CurvesLengthCalled values before after r →
-    let ended : WrittenCurves = curves_length (curves_of values) in
+    let ended : Result ℕ Refusal = curves_length (curves_of values) in
     CallEnds (writing_answer ended) before (written_length ended) after r
 
 -- `ordc_write_curves` is refused as the writing is, and then leaves the length and the buffer
 abbrev pub WriteCurvesCallIsRefusedFirst : Type 0
 WriteCurvesCallIsRefusedFirst =
     (values : List ℤ) (buffer buffer' : List ℕ) (before after : ℕ) (r : Reply) → WriteCurvesCalled values buffer before buffer' after r →
-    let ended : WrittenCurves = writing_curves (curves_of values) buffer in
+    let ended : Result ℕ Refusal = writing_curves (curves_of values) buffer in
     CallEnds (writing_answer ended) before (written_length ended) after r
     × CallEnds (writing_answer ended) buffer (written_buffer (curves_of values) buffer) buffer' r
 

@@ -1,15 +1,16 @@
 -- The layout of the record, and the effect of booking and settling on it. A record is 72 numbers: count, sum and sum of squares of each of the 24 groups in order.
-use Rattle.std.specs.Prelude.{ℕ, zero, suc, List, [], ◌∷◌, ℤ, pos, nat_abs, drop, cond}
+use Rattle.std.specs.Prelude.{ℕ, zero, suc, List, [], ◌∷◌, ℤ, pos, nat_abs, drop, cond, Result}
 use Rattle.std.specs.Int.Signed.{lt_z}
 use Rattle.text_schema.specs.Schema.{value}
-use Rattle.curve_set.specs.CurveValues.{curve_values}
-use Rattle.curve_set.specs.declared.Curves.{Curves}
-use Rattle.curve_booking.specs.Booking.{booked}
+use Rattle.text_refusal.specs.Answer.{answer_of}
+use Rattle.text_refusal.specs.declared.refusal.Refusal.{Refusal}
+use Rattle.curve_set.specs.declared.CurveSet.{CurveSet}
+use Rattle.curve_booking.specs.Booking.{booked, record_after}
 use Rattle.curve_settling.specs.Settle.{settled}
 use Rattle.curve_record.specs.declared.Group.{Group}
 use Rattle.curve_record.specs.declared.Record.{Record}
-use Rattle.curve_booking.specs.declared.Booking.{Booking}
 use Rattle.ordc.specs.Reply.{reply_to, Answered}
+use Rattle.ordc.specs.CurveText.{values_given}
 use Rattle.ordc.specs.declared.reply.Reply.{Reply}
 
 -- ---- the layout
@@ -37,11 +38,11 @@ record_values history = group_values history.groups
 -- an accepted hour lays the booked record; a refused one leaves the record
 abbrev pub BookCalled : List ℤ → List ℕ → List ℤ → Reply → Type 0
 BookCalled before text after r =
-    let booking : Booking = booked (record_of before) text in
-    Answered (reply_to booking.answer) before (record_values booking.history) after r
+    let booking : Result Record Refusal = booked (record_of before) text in
+    Answered (reply_to (answer_of booking)) before (record_values (record_after (record_of before) booking)) after r
 
 -- an accepted settling lays the curve set: VOLL, X, then mean and spread of each group; a refused one leaves it
 abbrev pub SettleCalled : List ℤ → ℤ → ℤ → List ℤ → List ℤ → Reply → Type 0
 SettleCalled history voll floor before after r =
-    let curves : Curves = settled (record_of history) voll floor in
-    Answered (reply_to curves.answer) before (curve_values curves.set) after r
+    let curves : Result CurveSet Refusal = settled (record_of history) voll floor in
+    Answered (reply_to (answer_of curves)) before (values_given curves) after r

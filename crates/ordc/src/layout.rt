@@ -26,29 +26,27 @@ fn group_at(values: &[i64; 72], place: usize) -> Group
       squares = value values.now (place + 2);
     } }
 {
-    let count = count_of(values[place]);
-    let sum = values[place + 1];
-    let squares = values[place + 2];
     Group {
-        count,
-        sum,
-        squares,
+        count: count_of(values[place]),
+        sum: values[place + 1],
+        squares: values[place + 2],
     }
 }
+
+// A group before any hour.
+const NO_HOURS: Group = Group {
+    count: 0,
+    sum: 0,
+    squares: 0,
+};
 
 // The record of 72 numbers.
 pub(crate) fn record_of(values: &[i64; 72]) -> Record
     ensures { result ≡ record_of values.now }
 {
-    let mut groups = [Group {
-        count: 0,
-        sum: 0,
-        squares: 0,
-    }; 24];
-    let mut i: usize = 0;
-    while i < 24 {
+    let mut groups = [NO_HOURS; 24];
+    for i in 0..24 {
         groups[i] = group_at(values, 3 * i);
-        i += 1;
     }
     Record { groups }
 }
@@ -72,10 +70,8 @@ pub(crate) fn record_values(history: Record) -> [i64; 72]
     ensures { result ≡ record_values history }
 {
     let mut values = [0i64; 72];
-    let mut i: usize = 0;
-    while i < 24 {
+    for i in 0..24 {
         lay_group(&mut values, 3 * i, history.groups[i]);
-        i += 1;
     }
     values
 }

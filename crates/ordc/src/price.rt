@@ -4,18 +4,17 @@ ghost use Rattle.ordc.specs.Price.{PriceCalled};
 use crate::reply::{ACCEPTED, Reply, refused};
 use curve_set::values::curves_of;
 use pricing::price;
-use pricing_adder::price::{Pricing, price_values};
+use pricing_adder::price::price_values;
 
 // A snapshot's text priced on a lent curve set; a refusal leaves the lent answer as it was.
 pub fn ordc_price(curves: &[i64; 50], text: &[u8], answer: &mut [i64; 6]) -> Reply
     ensures { PriceCalled curves.now text.now answer.old answer.new result }
 {
-    let pricing = price(curves_of(*curves), text);
-    match pricing {
-        Pricing::Refused(found) => refused(found),
-        Pricing::Priced(prices) => {
+    match price(curves_of(*curves), text) {
+        Ok(prices) => {
             *answer = price_values(prices);
             ACCEPTED
         }
+        Err(found) => refused(found),
     }
 }

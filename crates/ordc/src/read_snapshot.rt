@@ -3,7 +3,6 @@ ghost use Rattle.ordc.specs.Snapshot.{ReadSnapshotCalled};
 
 use crate::reply::{ACCEPTED, Reply, refused};
 use pricing_held_reading::read_held;
-use text_refusal::answer::Answer;
 
 // A snapshot's text read into a lent header and lent rows, which a refusal leaves as they were.
 pub fn ordc_read_snapshot(
@@ -14,9 +13,8 @@ pub fn ordc_read_snapshot(
 ) -> Reply
     ensures { ReadSnapshotCalled text.now header.old ids.old numbers.old header.new ids.new numbers.new result }
 {
-    let answer = read_held(text, header, ids, numbers);
-    match answer {
-        Answer::Refused(found) => refused(found),
-        Answer::Accepted => ACCEPTED,
+    match read_held(text, header, ids, numbers) {
+        Ok(()) => ACCEPTED,
+        Err(found) => refused(found),
     }
 }

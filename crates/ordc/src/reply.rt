@@ -1,7 +1,8 @@
 // How every function of the library answers.
-ghost use Rattle.std.specs.Prelude.{◌≡◌};
+ghost use Rattle.std.specs.Prelude.{◌≡◌, Err};
 ghost use Rattle.ordc.specs.Reply.{reply_to};
-ghost use Rattle.text_refusal.specs.declared.answer.Answer.TheVariants as answer;
+
+use text_refusal::refusal::Refusal;
 
 // A refusal's number and line; both 0 where nothing was refused.
 #[repr(C)]
@@ -15,8 +16,8 @@ pub struct Reply {
 pub(crate) const ACCEPTED: Reply = Reply { number: 0, line: 0 };
 
 // A refusal that was found, as hosts see it.
-pub(crate) fn refused(found: text_refusal::refusal::Refusal) -> Reply
-    ensures { result ≡ reply_to (answer.Refused found) }
+pub(crate) fn refused(found: Refusal) -> Reply
+    ensures { result ≡ reply_to (Err found) }
 {
     let number = found.number;
     let line = found.line as u64;

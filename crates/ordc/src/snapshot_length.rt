@@ -2,7 +2,7 @@
 ghost use Rattle.ordc.specs.Snapshot.{SnapshotLengthCalled};
 
 use crate::reply::{ACCEPTED, Reply, refused};
-use pricing_held_text::{HeldText, held_length};
+use pricing_held_text::held_length;
 
 // The length of the text of lent values, before it is written; a refusal leaves the lent length as it was.
 pub fn ordc_snapshot_length(
@@ -13,12 +13,11 @@ pub fn ordc_snapshot_length(
 ) -> Reply
     ensures { SnapshotLengthCalled header.now ids.now numbers.now length.old length.new result }
 {
-    let ended = held_length(header, ids, numbers);
-    match ended {
-        HeldText::Refused(found) => refused(found),
-        HeldText::Length(count) => {
+    match held_length(header, ids, numbers) {
+        Ok(count) => {
             *length = count;
             ACCEPTED
         }
+        Err(found) => refused(found),
     }
 }

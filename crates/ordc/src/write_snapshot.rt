@@ -2,7 +2,7 @@
 ghost use Rattle.ordc.specs.Snapshot.{WriteSnapshotCalled};
 
 use crate::reply::{ACCEPTED, Reply, refused};
-use pricing_held_text::{HeldText, write_held};
+use pricing_held_text::write_held;
 
 // The text of lent values written into a lent buffer, and its length; a refusal leaves the buffer and the length as they were.
 pub fn ordc_write_snapshot(
@@ -14,12 +14,11 @@ pub fn ordc_write_snapshot(
 ) -> Reply
     ensures { WriteSnapshotCalled header.now ids.now numbers.now buffer.old written.old buffer.new written.new result }
 {
-    let ended = write_held(header, ids, numbers, buffer);
-    match ended {
-        HeldText::Refused(found) => refused(found),
-        HeldText::Length(length) => {
+    match write_held(header, ids, numbers, buffer) {
+        Ok(length) => {
             *written = length;
             ACCEPTED
         }
+        Err(found) => refused(found),
     }
 }

@@ -6,7 +6,6 @@ use program_price::price_text;
 use std::io;
 use std::io::Write;
 use text_line::piece::part;
-use text_writer::Written;
 
 fn main(rt: HostRuntime) -> io::Result<()> {
     // Room for one byte more than the most that is accepted, so that a longer input is seen as such.
@@ -17,7 +16,7 @@ fn main(rt: HostRuntime) -> io::Result<()> {
     let mut output = [0u8; 256];
     let written = price_text(&space[..length], &mut output);
     // What is printed has at most 256 bytes, so the buffer is never too short (`PriceOutputIsShort`).
-    let Written::Ended { next } = written else {
+    let Some(next) = written else {
         return Ok(());
     };
     rt.stdout().write_all(part(&output, 0, next))

@@ -10,10 +10,9 @@ use lib.IntN.{ℤ, pos, nat_abs}
 use lib.ListN.{length, drop}
 use lib.Seq.{take_at}
 use lib.Signed.{◌≤ℤ◌}
+use Rattle.std.specs.Prelude.{Ok, Err}
 use Rattle.integer.proofs.Difference.{view, to_ℕ}
-use Rattle.text_refusal.specs.Answer.{lent_after_answer}
-use Rattle.text_refusal.specs.declared.answer.Answer.{Answer}
-use Rattle.text_refusal.specs.declared.answer.Answer.TheVariants as answer
+use Rattle.text_refusal.specs.Answer.{Answer, lent_after_answer}
 use Rattle.text_schema.specs.Schema.{laid_over}
 use Rattle.text_schema.specs.Checked.{text_of, first_refused}
 use Rattle.text_schema.proofs.Checked.{accepted_unrefused, unrefused_accepted}
@@ -112,7 +111,7 @@ module _ (header : List ℤ) (ids : List ℕ) (numbers : List ℤ) (buffer : Lis
   writing_applies : WritingSnapshotCase header ids numbers buffer (written_as buffer text_of_lem (writing_held header ids numbers buffer))
   writing_applies = go (held_answer header ids numbers) refl
     where
-      room : held_answer header ids numbers ≡ answer.Accepted → (b : Bool) → leb (length text_of_lem) (length buffer) ≡ b → WritingSnapshotCase header ids numbers buffer (written_as buffer text_of_lem (writing_held header ids numbers buffer))
+      room : held_answer header ids numbers ≡ Ok tt → (b : Bool) → leb (length text_of_lem) (length buffer) ≡ b → WritingSnapshotCase header ids numbers buffer (written_as buffer text_of_lem (writing_held header ids numbers buffer))
       room accepted true p =
           let fits = leb-true (length text_of_lem) (length buffer) p in
           rw (writing_accepted header ids numbers buffer accepted fits) (text_written accepted fits)
@@ -121,8 +120,8 @@ module _ (header : List ℤ) (ids : List ℕ) (numbers : List ℤ) (buffer : Lis
           rw (writing_short header ids numbers buffer accepted short) (buffer_short accepted short)
 
       go : (a : Answer) → held_answer header ids numbers ≡ a → WritingSnapshotCase header ids numbers buffer (written_as buffer text_of_lem (writing_held header ids numbers buffer))
-      go answer.Accepted e = room e (leb (length text_of_lem) (length buffer)) refl
-      go (answer.Refused found) e = rw (writing_refused header ids numbers buffer e) (line_refused e)
+      go (Ok accepted) e = room e (leb (length text_of_lem) (length buffer)) refl
+      go (Err found) e = rw (writing_refused header ids numbers buffer e) (line_refused e)
 
   writing_only : (other : SnapshotWriting) → WritingSnapshotCase header ids numbers buffer other → other ≡ written_as buffer text_of_lem (writing_held header ids numbers buffer)
   writing_only other (line_refused e) = ap (written_as buffer text_of_lem) (sym (writing_refused header ids numbers buffer e))

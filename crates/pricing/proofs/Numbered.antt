@@ -3,6 +3,7 @@ use Prim.Native.Nat.{ℕ}
 use native.Mathlib.Omega.{arith}
 use mathlib.Core.List.{List}
 use mathlib.Core.Path.{subst}
+use Rattle.std.specs.Prelude.{Ok, Err}
 use Rattle.text_refusal.specs.Bytes.{bytes}
 use Rattle.text_refusal.specs.Refusal.{fault}
 use Rattle.text_refusal.specs.declared.refusal.Fault.{Fault}
@@ -19,8 +20,7 @@ use Rattle.pricing_snapshot.specs.Promises.{FaultyResource, faulty_id, repeated_
 use Rattle.pricing_snapshot.proofs.Cases.{SnapshotCase, too_long, line_refused, bytes_after, suspect_number, whole, snapshot_case, first_faulty_line_is_refused}
 use Rattle.pricing_snapshot.proofs.SuspectLine.{suspect_line_lem}
 use Rattle.pricing_snapshot.proofs.Snapshots.{header_schema}
-use Rattle.pricing_adder.specs.declared.price.Pricing.{Pricing}
-use Rattle.pricing_adder.specs.declared.price.Pricing.TheVariants as pricing
+use Rattle.pricing_adder.specs.Price.{Pricing}
 use Rattle.pricing.specs.Pricing.{priced}
 use Rattle.pricing.proofs.Pricing.{PricedCase, impossible_curves, refused_snapshot, prices_given, priced_case}
 
@@ -52,8 +52,8 @@ snapshot_listed text = go (snapshot_in text) (snapshot_case text)
     go a (whole short due over fine) = tt
 
 abbrev pub PricingListed : List ℕ → Pricing → Type 0
-PricingListed text (pricing.Priced prices) = Unit
-PricingListed text (pricing.Refused found) = Listed text found
+PricingListed text (Ok prices) = Unit
+PricingListed text (Err found) = Listed text found
 
 pub pricing_listed : (curves : CurveSet) (text : List ℕ) → PricingListed text (priced curves text)
 pricing_listed curves text = go (priced curves text) (priced_case curves text)

@@ -3,12 +3,11 @@ use Prim.Native.Nat.{ℕ}
 use mathlib.Core.Path.{◌≡◌, refl, sym, ◌∙◌}
 use mathlib.Core.Bool.{Bool, true, false, cond}
 use mathlib.Core.List.{List}
+use Rattle.std.specs.Prelude.{Result, Ok, Err}
 use Rattle.text_refusal.specs.declared.refusal.Refusal.{Refusal}
 use Rattle.curve_set.specs.Curves.{curves_in_range}
 use Rattle.curve_set.specs.declared.CurveSet.{CurveSet}
-use Rattle.pricing_adder.specs.Price.{prices_of, sums_priced, refused_pricing}
-use Rattle.pricing_adder.specs.declared.price.Pricing.{Pricing}
-use Rattle.pricing_adder.specs.declared.price.Pricing.TheVariants as pricing
+use Rattle.pricing_adder.specs.Price.{Pricing, prices_of, sums_priced, refused_pricing}
 use Rattle.pricing_sums.specs.declared.header.Header.{Header}
 use Rattle.pricing_sums.specs.declared.Sums.{Sums}
 use Rattle.pricing_adder.proofs.Accepted.{sums_priced_lem}
@@ -16,7 +15,6 @@ use Rattle.pricing_sums.specs.Part.{sums_of}
 use Rattle.pricing_sums.proofs.Parts.{sums_possible_lem}
 use Rattle.pricing_snapshot.specs.Snapshot.{Entry, resources_of, SnapshotAnswer, read, refused_by, snapshot_in, snapshot_sums}
 use Rattle.pricing_snapshot.specs.declared.Snapshot.{Snapshot}
-use Rattle.pricing_snapshot.specs.declared.Snapshot.TheVariants as snapshot
 use Rattle.pricing_sums.proofs.Headers.{header_fault_lem}
 use Rattle.pricing_snapshot.proofs.Cases.{SnapshotCase, too_long, line_refused, bytes_after, suspect_number, whole, snapshot_case, case_long, case_refused, case_after, case_suspect, case_whole, first_faulty_line_is_refused}
 use Rattle.pricing_snapshot.proofs.Readings.{snapshot_read, few_resources}
@@ -27,10 +25,10 @@ use Rattle.pricing.specs.Promises.{PricingOutcome, outcome, PricingCase, impossi
 
 pub data PricedCase (curves : CurveSet) (text : List ℕ) : Pricing → Type 0 where
   impossible_curves : curves_in_range curves ≡ false → PricedCase curves text (refused_pricing 1 0)
-  refused_snapshot : {found : Refusal} → curves_in_range curves ≡ true → snapshot_in text ≡ refused_by found → PricedCase curves text (pricing.Refused found)
+  refused_snapshot : {found : Refusal} → curves_in_range curves ≡ true → snapshot_in text ≡ refused_by found → PricedCase curves text (Err found)
   prices_given :
       {h : Header} {entries : List Entry} → curves_in_range curves ≡ true → snapshot_in text ≡ read h entries →
-      PricedCase curves text (pricing.Priced (prices_of curves h (sums_of (resources_of entries))))
+      PricedCase curves text (Ok (prices_of curves h (sums_of (resources_of entries))))
 
 pub priced_case : (curves : CurveSet) (text : List ℕ) → PricedCase curves text (priced curves text)
 unfolding priced
@@ -49,28 +47,27 @@ pub priced_refused : (curves : CurveSet) (text : List ℕ) → curves_in_range c
 unfolding priced
 priced_refused curves text e = rw e
 
-module _ (curves : CurveSet) (text : List ℕ) (possible : curves_in_range curves ≡ true) {answer : Snapshot} (given : answer ≡ snapshot_sums (snapshot_in text)) where
-  pub priced_turned : {found : Refusal} → answer ≡ snapshot.Refused found → pricing.Refused found ≡ priced curves text
+module _ (curves : CurveSet) (text : List ℕ) (possible : curves_in_range curves ≡ true) {answer : Result Snapshot Refusal} (given : answer ≡ snapshot_sums (snapshot_in text)) where
+  pub priced_turned : {found : Refusal} → answer ≡ Err found → Err found ≡ priced curves text
   unfolding priced
   priced_turned {found} is = rw possible (go (snapshot_in text) (sym is ∙ given))
     where
-      go : (a : SnapshotAnswer) → snapshot.Refused found ≡ snapshot_sums a → pricing.Refused found ≡ priced_snapshot curves a
+      go : (a : SnapshotAnswer) → Err found ≡ snapshot_sums a → Err found ≡ priced_snapshot curves a
       go (refused_by other) e = cc
       go (read h entries) e = cc
 
   -- the sums of a snapshot that was read are possible and its header is in range, so pricing from them refuses nothing
-  pub priced_sums : {h : Header} {s : Sums} → answer ≡ snapshot.Read h s → sums_priced curves h s ≡ priced curves text
+  pub priced_sums : {one : Snapshot} → answer ≡ Ok one → sums_priced curves one.header one.sums ≡ priced curves text
   unfolding priced
-  priced_sums {h} {s} is = rw possible (go (snapshot_in text) refl (sym is ∙ given))
+  priced_sums {one} is = rw possible (go (snapshot_in text) refl (sym is ∙ given))
     where
-      go : (a : SnapshotAnswer) → snapshot_in text ≡ a → snapshot.Read h s ≡ snapshot_sums a → sums_priced curves h s ≡ priced_snapshot curves a
+      go : (a : SnapshotAnswer) → snapshot_in text ≡ a → Ok one ≡ snapshot_sums a → sums_priced curves one.header one.sums ≡ priced_snapshot curves a
       go (refused_by other) same e = cc
-      go (read h' entries) same e =
+      go (read h entries) same e =
           let r = snapshot_read text same in
-          let h_is : h ≡ h' = cc in
-          let s_is : s ≡ sums_of (resources_of entries) = cc in
-          rw (h_is, s_is)
-          (sums_priced_lem curves h' (sums_of (resources_of entries)) possible (sums_possible_lem r.resources.ranged (few_resources r)) (header_fault_lem r.header))
+          let one_is : ◌≡◌ {A = Snapshot} one (record { header = h; sums = sums_of (resources_of entries) }) = cc in
+          rw one_is
+          (sums_priced_lem curves h (sums_of (resources_of entries)) possible (sums_possible_lem r.resources.ranged (few_resources r)) (header_fault_lem r.header))
 
 -- ---- demands 1 and 2
 

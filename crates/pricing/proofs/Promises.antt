@@ -3,17 +3,13 @@ use Prim.Native.Nat.{ℕ}
 use mathlib.Core.Path.{◌≡◌, refl, sym, ◌∙◌}
 use mathlib.Core.List.{List}
 use lib.Signed.{≤ℤ_refl}
-use Rattle.curve_settling.specs.Settle.{settled}
-use Rattle.curve_record.specs.Record.{fresh}
-use Rattle.curve.specs.Lists.{booked_all}
+use Rattle.std.specs.Prelude.{Ok}
 use Rattle.curve_set.specs.declared.CurveSet.{CurveSet}
-use Rattle.pricing_adder.specs.Price.{pair_for, prices_of}
+use Rattle.pricing_adder.specs.Price.{Pricing, pair_for, prices_of}
 use Rattle.pricing_order.specs.Promises.{CurvesLowered}
 use Rattle.pricing_order.proofs.Order.{more_reserve_never_raises_prices, offline_online_value}
 use Rattle.pricing_sums.specs.declared.header.Header.{Header}
 use Rattle.pricing_adder.specs.declared.price.Prices.{Prices}
-use Rattle.pricing_adder.specs.declared.price.Pricing.{Pricing}
-use Rattle.pricing_adder.specs.declared.price.Pricing.TheVariants as pricing
 use Rattle.pricing_sums.specs.Part.{sums_of}
 use Rattle.pricing_snapshot.specs.Snapshot.{Entry, SnapshotAnswer, read, snapshot_in, resources_of}
 use Rattle.pricing.specs.Pricing.{priced}
@@ -28,10 +24,10 @@ use Rattle.pricing.proofs.Settling.{curves_lowered}
 -- the prices of an accepted pricing
 prices_are :
     (curves : CurveSet) (text : List ℕ) {h : Header} {entries : List Entry} {prices : Prices} → snapshot_in text ≡ read h entries →
-    priced curves text ≡ pricing.Priced prices → prices_of curves h (sums_of (resources_of entries)) ≡ prices
+    priced curves text ≡ Ok prices → prices_of curves h (sums_of (resources_of entries)) ≡ prices
 prices_are curves text {h} {entries} {prices} is e = go (priced curves text) (priced_case curves text) e
   where
-    go : (a : Pricing) → PricedCase curves text a → a ≡ pricing.Priced prices → prices_of curves h (sums_of (resources_of entries)) ≡ prices
+    go : (a : Pricing) → PricedCase curves text a → a ≡ Ok prices → prices_of curves h (sums_of (resources_of entries)) ≡ prices
     go a (impossible_curves i) e = cc
     go a (refused_snapshot possible same) e = cc
     go a (prices_given {h = h'} {entries = entries'} possible same) e =
@@ -44,7 +40,7 @@ prices_are curves text {h} {entries} {prices} is e = go (priced curves text) (pr
 raised :
     (first second : CurveSet) (text text' : List ℕ) (prices prices' : Prices) (a a' : SnapshotAnswer) → snapshot_in text ≡ a → snapshot_in text' ≡ a' →
     ((h : Header) → HeaderInRange h → CurvesLowered h first second) → SnapshotRaised a a' →
-    priced first text ≡ pricing.Priced prices → priced second text' ≡ pricing.Priced prices' → NeitherPriceRises prices prices'
+    priced first text ≡ Ok prices → priced second text' ≡ Ok prices' → NeitherPriceRises prices prices'
 raised first second text text' prices prices' a a' is is' lower (snapshot_raised {h} {h'} {entries} {entries'} header all) e e' =
     let r = snapshot_read text is in
     rw (← prices_are first text is e, ← prices_are second text' is' e')
@@ -57,9 +53,9 @@ raised_reserve_never_raises_prices_on_curves curves snapshot snapshot' first sec
     (λ h ranged. record { voll = refl; floor = refl; mean = ≤ℤ_refl (pair_for curves h).mean; spread = refl }) up e e'
 
 pub raised_reserve_never_raises_prices : RaisedReserveNeverRaisesPrices
-raised_reserve_never_raises_prices d texts texts' voll floor snapshot snapshot' first second lists accepted accepted' up e e' =
-    raised (settled (booked_all fresh texts) voll floor).set (settled (booked_all fresh texts') voll floor).set snapshot snapshot' first second
-    (snapshot_in snapshot) (snapshot_in snapshot') refl refl (curves_lowered d texts texts' voll floor lists accepted accepted') up e e'
+raised_reserve_never_raises_prices d texts texts' voll floor curves curves' snapshot snapshot' first second lists accepted accepted' up e e' =
+    raised curves curves' snapshot snapshot' first second (snapshot_in snapshot) (snapshot_in snapshot') refl refl
+    (curves_lowered d texts texts' voll floor curves curves' lists accepted accepted') up e e'
 
 pub offline_online_value_in_order : OfflineOnlineValueInOrder
 offline_online_value_in_order curves snapshot h entries prices is e =

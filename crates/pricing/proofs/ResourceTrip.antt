@@ -15,7 +15,8 @@ use Rattle.text_line.proofs.LineBytes.{one_line}
 use Rattle.text_schema.specs.Schema.{read_fields}
 use Rattle.text_schema.specs.Checked.{CheckedLine, checked_line, checked_lines, text_of}
 use Rattle.text_schema.proofs.Readings.{reading_length}
-use Rattle.text_number.specs.Marked.{Marked, numbers_of, marks_of, marked_by}
+use Rattle.text_number.specs.declared.marked.Marked.{Marked}
+use Rattle.text_number.specs.Marked.{numbers_of, marks_of, marked_by}
 use Rattle.text_number.proofs.Marks.{marks_few, by_length, by_take, marked_again}
 use Rattle.text_schema.proofs.Checked.{Unrefused, text_first, checked_taken}
 use Rattle.text_schema.proofs.Marks.{LinesWithMarks}

@@ -7,6 +7,8 @@ use mathlib.Core.List.{List, map}
 use lib.IntN.{ℤ, pos, nat_abs, ◌-ℤ◌}
 use lib.ListN.{get_or}
 use lib.Signed.{◌≤ℤ◌}
+use Rattle.std.specs.Prelude.{Result, Ok, Err}
+use Rattle.curve_set.specs.declared.CurveSet.{CurveSet}
 use Rattle.integer.proofs.Difference.{view, to_ℕ}
 use Rattle.text_refusal.specs.declared.refusal.Refusal.{Refusal}
 use Rattle.curve_group.specs.Season.{group_of}
@@ -19,10 +21,8 @@ use Rattle.curve.specs.FirstRefusal.{SettlingCase, unsettled_record, voll_outsid
 use Rattle.curve.specs.Lists.{booked_all, ListsLowered}
 use Rattle.curve.proofs.FirstRefusal.{settling_is_refused_first}
 use Rattle.curve.proofs.Shift.{lowered_errors_lower_means}
-use Rattle.text_refusal.specs.declared.answer.Answer.TheVariants as answer
 use Rattle.curve_record.specs.declared.Record.{Record}
 use Rattle.curve_set.specs.declared.Pair.{Pair}
-use Rattle.curve_set.specs.declared.Curves.{Curves}
 use Rattle.pricing_order.specs.Promises.{CurvesLowered}
 use Rattle.pricing_sums.specs.declared.header.Header.{Header}
 use Rattle.pricing_resource.specs.internal.Range.{Between}
@@ -30,23 +30,22 @@ use Rattle.pricing_sums.proofs.Headers.{HeaderInRange}
 
 -- ---- an accepted settling
 
-pub record SettledAs (history : Record) (voll floor : ℤ) (found : Curves) : Type 0 where
-  pub set : found.set ≡ record { voll = voll; floor = floor; pairs = map pair_of (all_groups history) }
+pub record SettledAs (history : Record) (voll floor : ℤ) (curves : CurveSet) : Type 0 where
+  pub set : curves ≡ record { voll = voll; floor = floor; pairs = map pair_of (all_groups history) }
   pub faultless : (g : ℕ) → g < 24 → Faultless (group_at history g)
 
-pub settled_as : (history : Record) (voll floor : ℤ) → (settled history voll floor).answer ≡ answer.Accepted → SettledAs history voll floor (settled history voll floor)
-settled_as history voll floor = go (settling_is_refused_first history voll floor).applies
+pub settled_as : (history : Record) (voll floor : ℤ) (curves : CurveSet) → settled history voll floor ≡ Ok curves → SettledAs history voll floor curves
+settled_as history voll floor curves e = go (settling_is_refused_first history voll floor).applies e
   where
-    clash : {found : Refusal} → answer.Refused found ≡ answer.Accepted → ⊥
-    clash e = let z : ◌≡◌ {A = ℕ} 0 1 = cc in omega arith
-
-    go : {curves : Curves} → SettlingCase history voll floor curves → curves.answer ≡ answer.Accepted → SettledAs history voll floor curves
-    go (unsettled_record p) e = absurd (clash e)
-    go (voll_outside p v) e = absurd (clash e)
-    go (floor_outside p v f) e = absurd (clash e)
-    go (too_few_hours p v f g below earlier few) e = absurd (clash e)
-    go (no_spread p v f g below earlier enough flat) e = absurd (clash e)
-    go (record_settled p v f fine) e = record { set = refl; faultless = fine }
+    go : {given : Result CurveSet Refusal} → SettlingCase history voll floor given → given ≡ Ok curves → SettledAs history voll floor curves
+    go (unsettled_record p) e = cc
+    go (voll_outside p v) e = cc
+    go (floor_outside p v f) e = cc
+    go (too_few_hours p v f g below earlier few) e = cc
+    go (no_spread p v f g below earlier enough flat) e = cc
+    go (record_settled p v f fine) e =
+        let same : ◌≡◌ {A = CurveSet} curves (record { voll = voll; floor = floor; pairs = map pair_of (all_groups history) }) = cc in
+        record { set = same; faultless = fine }
 
 -- ---- the group of a header
 
@@ -58,23 +57,23 @@ not_higher x d = rw (view x) (simp to_ℕ (omega arith))
 
 -- what a settled set says of a group that it has
 pub pair_settled :
-    (texts : List (List ℕ)) (voll floor : ℤ) (g : ℕ) (d : Pair) → g < 24 → SettledAs (booked_all fresh texts) voll floor (settled (booked_all fresh texts) voll floor) →
-    (get_or (settled (booked_all fresh texts) voll floor).set.pairs g d ≡ pair_of (group_at (booked_all fresh texts) g)) × (0 < (group_at (booked_all fresh texts) g).count)
-pair_settled texts voll floor g d h s =
+    (texts : List (List ℕ)) (voll floor : ℤ) (curves : CurveSet) (g : ℕ) (d : Pair) → g < 24 → SettledAs (booked_all fresh texts) voll floor curves →
+    (get_or curves.pairs g d ≡ pair_of (group_at (booked_all fresh texts) g)) × (0 < (group_at (booked_all fresh texts) g).count)
+pair_settled texts voll floor curves g d h s =
     let two = (s.faultless g h).0 in
     (rw s.set (pair_at (booked_all fresh texts) g d h), omega arith)
 
 pub curves_lowered :
-    (d : ℕ) (texts texts' : List (List ℕ)) (voll floor : ℤ) → ListsLowered d fresh fresh texts texts' →
-    (settled (booked_all fresh texts) voll floor).answer ≡ answer.Accepted → (settled (booked_all fresh texts') voll floor).answer ≡ answer.Accepted →
-    (h : Header) → HeaderInRange h → CurvesLowered h (settled (booked_all fresh texts) voll floor).set (settled (booked_all fresh texts') voll floor).set
-curves_lowered d texts texts' voll floor lists accepted accepted' h ranged =
+    (d : ℕ) (texts texts' : List (List ℕ)) (voll floor : ℤ) (curves curves' : CurveSet) → ListsLowered d fresh fresh texts texts' →
+    settled (booked_all fresh texts) voll floor ≡ Ok curves → settled (booked_all fresh texts') voll floor ≡ Ok curves' →
+    (h : Header) → HeaderInRange h → CurvesLowered h curves curves'
+curves_lowered d texts texts' voll floor curves curves' lists accepted accepted' h ranged =
     let g : ℕ = group_of (nat_abs h.month) (nat_abs h.hour) in
     let below = group_below (nat_abs h.month) (nat_abs h.hour) (hour_below h.hour ranged.hour) in
-    let s = settled_as (booked_all fresh texts) voll floor accepted in
-    let s' = settled_as (booked_all fresh texts') voll floor accepted' in
-    let p = pair_settled texts voll floor g (record { mean = pos 0; spread = pos 0 }) below s in
-    let p' = pair_settled texts' voll floor g (record { mean = pos 0; spread = pos 0 }) below s' in
+    let s = settled_as (booked_all fresh texts) voll floor curves accepted in
+    let s' = settled_as (booked_all fresh texts') voll floor curves' accepted' in
+    let p = pair_settled texts voll floor curves g (record { mean = pos 0; spread = pos 0 }) below s in
+    let p' = pair_settled texts' voll floor curves' g (record { mean = pos 0; spread = pos 0 }) below s' in
     let same = (lowered_errors_lower_means d texts texts' lists g).1 p.1 in
     record {
       voll = rw (s.set, s'.set);

@@ -3,11 +3,10 @@ use Prim.Native.Nat.{ℕ, ◌≤◌}
 use native.Mathlib.Omega.{arith}
 use mathlib.Core.List.{List}
 use lib.IntN.{nat_abs}
+use Rattle.std.specs.Prelude.{Ok, Err}
 use Rattle.curve_set.specs.declared.CurveSet.{CurveSet}
-use Rattle.pricing_adder.specs.Price.{value_of_reserve}
+use Rattle.pricing_adder.specs.Price.{Pricing, value_of_reserve}
 use Rattle.pricing_adder.specs.declared.price.Prices.{Prices}
-use Rattle.pricing_adder.specs.declared.price.Pricing.{Pricing}
-use Rattle.pricing_adder.specs.declared.price.Pricing.TheVariants as pricing
 use Rattle.pricing_sums.proofs.Headers.{header_fault_lem, header_bound}
 use Rattle.pricing_sums.proofs.SumsBounds.{sums_bound}
 use Rattle.pricing_sums.proofs.Parts.{sums_possible_lem}
@@ -29,8 +28,8 @@ pub record SmallPrices (p : Prices) : Type 0 where
   pub offline : p.offline ≤ 4000000
 
 abbrev pub SmallPricing : Pricing → Type 0
-SmallPricing (pricing.Priced prices) = SmallPrices prices
-SmallPricing (pricing.Refused found) = Unit
+SmallPricing (Ok prices) = SmallPrices prices
+SmallPricing (Err found) = Unit
 
 pub priced_small : (curves : CurveSet) (text : List ℕ) → SmallPricing (priced curves text)
 priced_small curves text = go (priced curves text) (priced_case curves text)

@@ -1,6 +1,6 @@
 -- What is promised of pricing, over texts and the operations' answers: demands 1 and 2 where they concern pricing, and demand 3, whole (document 01, "Held fixed
 -- in demand 3" to "This is a single claim about two whole lists").
-use Rattle.std.specs.Prelude.{ℕ, ◌≤◌, ◌<◌, ◌≡◌, true, false, List, [], ◌∷◌, eqb, ℤ, ◌≤ℤ◌, length}
+use Rattle.std.specs.Prelude.{ℕ, ◌≤◌, ◌<◌, ◌≡◌, true, false, List, [], ◌∷◌, eqb, ℤ, ◌≤ℤ◌, length, Ok}
 use Rattle.text_refusal.specs.Refusal.{line_of}
 use Rattle.text_refusal.specs.declared.refusal.Fault.{Fault}
 use Rattle.text_line.specs.Field.{got, refused}
@@ -9,14 +9,11 @@ use Rattle.curve_settling.specs.Settle.{settled}
 use Rattle.curve.specs.FirstRefusal.{Decides}
 use Rattle.curve.specs.Lists.{ListsLowered, booked_all}
 use Rattle.curve_set.specs.Curves.{curves_in_range}
-use Rattle.text_refusal.specs.declared.answer.Answer.TheVariants as answer
 use Rattle.curve_set.specs.declared.CurveSet.{CurveSet}
-use Rattle.pricing_adder.specs.Price.{value_of_reserve, prices_of, price_values, pricing_number, pricing_line, pricing_values}
+use Rattle.pricing_adder.specs.Price.{Pricing, value_of_reserve, prices_of, price_values, pricing_number, pricing_line, pricing_values}
 use Rattle.pricing_order.specs.Promises.{HeaderRaised}
 use Rattle.pricing_sums.specs.declared.header.Header.{Header}
 use Rattle.pricing_adder.specs.declared.price.Prices.{Prices}
-use Rattle.pricing_adder.specs.declared.price.Pricing.{Pricing}
-use Rattle.pricing_adder.specs.declared.price.Pricing.TheVariants as pricing
 use Rattle.pricing_sums.specs.Part.{sums_of}
 use Rattle.pricing_snapshot.specs.Snapshot.{Entry, Contents, due_lines, SnapshotAnswer, read, resources_of, snapshot_in}
 use Rattle.pricing_snapshot.specs.Promises.{FaultyLine}
@@ -74,7 +71,7 @@ PricingIsRefusedFirst = (curves : CurveSet) (text : List ℕ) → Decides (Prici
 abbrev pub PricesEqualTheFormulas : Type 0
 PricesEqualTheFormulas =
     (curves : CurveSet) (text : List ℕ) (h : Header) (entries : List Entry) → curves_in_range curves ≡ true → snapshot_in text ≡ read h entries →
-    priced curves text ≡ pricing.Priced (prices_of curves h (sums_of (resources_of entries)))
+    priced curves text ≡ Ok (prices_of curves h (sums_of (resources_of entries)))
 
 -- prices depend on the header and the five uncapped sums alone
 abbrev pub PricesDependOnHeaderAndSums : Type 0
@@ -138,13 +135,13 @@ NeitherPriceRises first second = (second.online ≤ first.online) × (second.off
 -- the snapshot raised, both pricings accepted
 abbrev pub RaisedReserveNeverRaisesPrices : Type 0
 RaisedReserveNeverRaisesPrices =
-    (d : ℕ) (texts texts' : List (List ℕ)) (voll floor : ℤ) (snapshot snapshot' : List ℕ) (first second : Prices) →
+    (d : ℕ) (texts texts' : List (List ℕ)) (voll floor : ℤ) (curves curves' : CurveSet) (snapshot snapshot' : List ℕ) (first second : Prices) →
     ListsLowered d fresh fresh texts texts' →
-    (settled (booked_all fresh texts) voll floor).answer ≡ answer.Accepted →
-    (settled (booked_all fresh texts') voll floor).answer ≡ answer.Accepted →
+    settled (booked_all fresh texts) voll floor ≡ Ok curves →
+    settled (booked_all fresh texts') voll floor ≡ Ok curves' →
     SnapshotRaised (snapshot_in snapshot) (snapshot_in snapshot') →
-    priced (settled (booked_all fresh texts) voll floor).set snapshot ≡ pricing.Priced first →
-    priced (settled (booked_all fresh texts') voll floor).set snapshot' ≡ pricing.Priced second →
+    priced curves snapshot ≡ Ok first →
+    priced curves' snapshot' ≡ Ok second →
     NeitherPriceRises first second
 
 -- curves handed in: VOLL, X and all pairs are equal
@@ -152,11 +149,11 @@ abbrev pub RaisedReserveNeverRaisesPricesOnCurves : Type 0
 RaisedReserveNeverRaisesPricesOnCurves =
     (curves : CurveSet) (snapshot snapshot' : List ℕ) (first second : Prices) →
     SnapshotRaised (snapshot_in snapshot) (snapshot_in snapshot') →
-    priced curves snapshot ≡ pricing.Priced first → priced curves snapshot' ≡ pricing.Priced second → NeitherPriceRises first second
+    priced curves snapshot ≡ Ok first → priced curves snapshot' ≡ Ok second → NeitherPriceRises first second
 
 -- off-line ≤ on-line ≤ max(0, VOLL - lambda) in every accepted pricing
 abbrev pub OfflineOnlineValueInOrder : Type 0
 OfflineOnlineValueInOrder =
     (curves : CurveSet) (snapshot : List ℕ) (h : Header) (entries : List Entry) (prices : Prices) →
-    snapshot_in snapshot ≡ read h entries → priced curves snapshot ≡ pricing.Priced prices →
+    snapshot_in snapshot ≡ read h entries → priced curves snapshot ≡ Ok prices →
     (prices.offline ≤ prices.online) × (prices.online ≤ value_of_reserve curves h)

@@ -8,27 +8,18 @@ use native.Mathlib.Omega.{arith}
 use borrow.Author.Tests.{lt-ltb, le-ltb}
 use lib.ListN.{length, take, drop, length-drop}
 use lib.Seq.{take_all}
+use Rattle.std.specs.Prelude.{Ok, Err}
 use Rattle.text_refusal.specs.Bytes.{bytes}
 use Rattle.text_line.specs.Piece.{part}
 use Rattle.text_refusal.specs.declared.refusal.Refusal.{Refusal}
 use Rattle.text_writer.specs.Output.{refusal_lines}
 use Rattle.curve_text.specs.CurveText.{read_curves}
-use Rattle.text_refusal.specs.declared.answer.Answer.{Answer}
-use Rattle.text_refusal.specs.declared.answer.Answer.TheVariants as answer
-use Rattle.curve_set.specs.declared.Curves.{Curves}
+use Rattle.curve_set.specs.declared.CurveSet.{CurveSet}
 use Rattle.pricing_adder.specs.declared.price.Prices.{Prices}
-use Rattle.pricing_adder.specs.declared.price.Pricing.{Pricing}
-use Rattle.pricing_adder.specs.declared.price.Pricing.TheVariants as pricing
 use Rattle.pricing.specs.Pricing.{priced}
 use Rattle.program_price.specs.Program.{before_empty_line, curve_part, snapshot_part, price_lines, on_curves, printed_prices, price_output}
 
--- ---- the two parts of the input
-
-curve_part_lem : (input : List ℕ) (end : ℕ) → end ≡ before_empty_line true input → part input 0 end ≡ curve_part input
-unfolding curve_part
-curve_part_lem input end e =
-    let same : end - 0 ≡ before_empty_line true input = omega arith in
-    ap (λ (n : ℕ). take n input) same
+-- ---- the snapshot's part of the input
 
 snapshot_part_lem : (input : List ℕ) (end : ℕ) → end ≡ before_empty_line true input → part input (end + 1) (length input) ≡ snapshot_part input
 unfolding snapshot_part
@@ -42,23 +33,20 @@ pub too_long : (input : List ℕ) → 65536 < length input → refusal_lines (re
 unfolding price_output
 too_long input h = simp (lt-ltb _ _ h)
 
-module _ (input : List ℕ) (end : ℕ) (short : length input ≤ 65536) (ends : end ≡ before_empty_line true input) (curves : Curves) (took : curves ≡ read_curves (part input 0 end)) where
-  output : price_output input ≡ on_curves curves.set curves.answer (snapshot_part input)
-  unfolding price_output
-  output = simp (le-ltb _ _ short) (rw (took, curve_part_lem input end ends) refl)
+module _ (input : List ℕ) (end : ℕ) (short : length input ≤ 65536) (ends : end ≡ before_empty_line true input) where
+  output : price_output input ≡ on_curves (read_curves (take end input)) (snapshot_part input)
+  unfolding price_output curve_part
+  output = simp (le-ltb _ _ short) (rw (sym ends) refl)
 
-  pub curves_refused : {found : Refusal} → curves.answer ≡ answer.Refused found → refusal_lines found (bytes "curves") ≡ price_output input
-  curves_refused e = sym (output ∙ ap (λ (a : Answer). on_curves curves.set a (snapshot_part input)) e)
+  pub curves_refused : {found : Refusal} → read_curves (take end input) ≡ Err found → refusal_lines found (bytes "curves") ≡ price_output input
+  curves_refused e = sym (output ∙ rw e)
 
-  module _ (accepted : curves.answer ≡ answer.Accepted) (p : Pricing) (prices : p ≡ priced curves.set (part input (end + 1) (length input))) where
-    printed : price_output input ≡ printed_prices p
-    printed =
-        output
-        ∙ ap (λ (a : Answer). on_curves curves.set a (snapshot_part input)) accepted
-        ∙ ap printed_prices (sym (prices ∙ ap (priced curves.set) (snapshot_part_lem input end ends)))
+  module _ {curves : CurveSet} (accepted : read_curves (take end input) ≡ Ok curves) where
+    printed : price_output input ≡ printed_prices (priced curves (part input (end + 1) (length input)))
+    printed = output ∙ rw (accepted, snapshot_part_lem input end ends)
 
-    pub snapshot_refused : {found : Refusal} → p ≡ pricing.Refused found → refusal_lines found (bytes "snapshot") ≡ price_output input
+    pub snapshot_refused : {found : Refusal} → priced curves (part input (end + 1) (length input)) ≡ Err found → refusal_lines found (bytes "snapshot") ≡ price_output input
     snapshot_refused e = sym (printed ∙ ap printed_prices e)
 
-    pub snapshot_priced : {six : Prices} → p ≡ pricing.Priced six → price_lines six ≡ price_output input
+    pub snapshot_priced : {six : Prices} → priced curves (part input (end + 1) (length input)) ≡ Ok six → price_lines six ≡ price_output input
     snapshot_priced e = sym (printed ∙ ap printed_prices e)

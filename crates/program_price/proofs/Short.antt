@@ -8,6 +8,9 @@ use borrow.Author.Tests.{ltb-false}
 use lib.Dec.{ltb}
 use lib.IntN.{ℤ, pos, nat_abs}
 use lib.ListN.{length, length-append, length-take, length-drop}
+use Rattle.std.specs.Prelude.{Result, Ok, Err}
+use Rattle.text_refusal.specs.Answer.{answer_of}
+use Rattle.pricing_adder.specs.Price.{Pricing}
 use Rattle.text_refusal.specs.Bytes.{bytes}
 use Rattle.text_refusal.specs.declared.refusal.Refusal.{Refusal}
 use Rattle.text_number.specs.Number.{written_number}
@@ -17,12 +20,8 @@ use Rattle.text_number.proofs.WrittenDigits.{written_within}
 use Rattle.text_schema.proofs.Fields.{keys_computed}
 use Rattle.text_writer.proofs.Refused.{refusal_short}
 use Rattle.curve_set.specs.declared.CurveSet.{CurveSet}
-use Rattle.text_refusal.specs.declared.answer.Answer.{Answer}
-use Rattle.text_refusal.specs.declared.answer.Answer.TheVariants as answer
 use Rattle.curve_text.specs.CurveText.{read_curves}
 use Rattle.pricing_adder.specs.declared.price.Prices.{Prices}
-use Rattle.pricing_adder.specs.declared.price.Pricing.{Pricing}
-use Rattle.pricing_adder.specs.declared.price.Pricing.TheVariants as pricing
 use Rattle.pricing.specs.Pricing.{priced}
 use Rattle.pricing.proofs.Small.{SmallPrices, SmallPricing, priced_small}
 use Rattle.program_price.specs.Program.{before_empty_line, curve_part, snapshot_part, price_lines, printed_prices, on_curves, price_output}
@@ -72,26 +71,23 @@ unfolding snapshot_part
 snapshot_part-within input = omega (arith, length-drop (suc (before_empty_line true input)) input)
 
 priced_short : (text : List ℕ) → length text ≤ 65536 → (p : Pricing) → SmallPricing p → PricingListed text p → length (printed_prices p) ≤ 256
-priced_short text within (pricing.Priced p) small refused = prices_short p small
-priced_short text within (pricing.Refused found) small refused = listed_short found (bytes "snapshot") refused within (omega arith)
+priced_short text within (Ok p) small refused = prices_short p small
+priced_short text within (Err found) small refused = listed_short found (bytes "snapshot") refused within (omega arith)
 
 pub price_output_is_short : PriceOutputIsShort
 unfolding price_output
 price_output_is_short input = go (ltb 65536 (length input)) refl
   where
-    curves : CurveSet
-    curves = (read_curves (curve_part input)).set
-
     snapshot : List ℕ
     snapshot = snapshot_part input
 
-    by_curves : length input ≤ 65536 → (a : Answer) → AnswerListed (curve_part input) a → length (on_curves curves a snapshot) ≤ 256
-    by_curves within answer.Accepted small =
+    by_curves : length input ≤ 65536 → (given : Result CurveSet Refusal) → AnswerListed (curve_part input) (answer_of given) → length (on_curves given snapshot) ≤ 256
+    by_curves within (Ok curves) small =
         priced_short snapshot (omega (arith, snapshot_part-within input)) (priced curves snapshot) (priced_small curves snapshot) (pricing_listed curves snapshot)
-    by_curves within (answer.Refused found) small = listed_short found (bytes "curves") small (omega (arith, curve_part-within input)) (omega arith)
+    by_curves within (Err found) small = listed_short found (bytes "curves") small (omega (arith, curve_part-within input)) (omega arith)
 
     go :
         (long : Bool) → ltb 65536 (length input) ≡ long →
-        length (cond long (refusal_lines (record { number = 2; line = 0 }) (bytes "curves")) (on_curves curves (read_curves (curve_part input)).answer snapshot)) ≤ 256
+        length (cond long (refusal_lines (record { number = 2; line = 0 }) (bytes "curves")) (on_curves (read_curves (curve_part input)) snapshot)) ≤ 256
     go true e = refusal_short (record { number = 2; line = 0 }) (bytes "curves") (omega arith) (omega arith) (omega arith)
-    go false e = by_curves (ltb-false 65536 (length input) e) (read_curves (curve_part input)).answer (curves_listed (curve_part input))
+    go false e = by_curves (ltb-false 65536 (length input) e) (read_curves (curve_part input)) (curves_listed (curve_part input))

@@ -7,12 +7,11 @@ ghost use Rattle.program_price.specs.Program.{before_empty_line, price_lines, pr
 
 use curve_text::read_curves;
 use pricing::price;
-use pricing_adder::price::{Prices, Pricing, price_values};
+use pricing_adder::price::{Prices, price_values};
 use text_line::piece::part;
-use text_refusal::answer::Answer;
 use text_refusal::refusal::Refusal;
 use text_writer::output::write_refusal;
-use text_writer::{Written, write_lines};
+use text_writer::write_lines;
 
 // Where the first empty line starts, or the input's end.
 #[tactic(auto, using(crate::proofs::EmptyLine::empty_line_here, crate::proofs::EmptyLine::line_ended, crate::proofs::EmptyLine::in_line, crate::proofs::EmptyLine::no_empty_line))]
@@ -35,7 +34,7 @@ fn empty_line(input: &[u8]) -> usize
 
 // The six lines of an accepted pricing.
 #[tactic(auto, unfolding(crate::specs::Program::price_lines))]
-fn print_prices(p: Prices, out: &mut [u8]) -> Written
+fn print_prices(p: Prices, out: &mut [u8]) -> Option<usize>
     ensures { TextWritten (price_lines p) out.old 0 out.new result }
 {
     let values = price_values(p);
@@ -46,23 +45,18 @@ fn print_prices(p: Prices, out: &mut [u8]) -> Written
 const MOST_BYTES: usize = 65536;
 
 // What `price` prints of an input, at the start of a lent buffer; nothing where the buffer is too short.
-pub fn price_text(input: &[u8], out: &mut [u8]) -> Written
+pub fn price_text(input: &[u8], out: &mut [u8]) -> Option<usize>
     ensures { TextWritten (price_output input.now) out.old 0 out.new result }
 {
     if MOST_BYTES < input.len() {
         return write_refusal(out, Refusal { number: 2, line: 0 }, b"curves");
     }
     let end = empty_line(input);
-    let curves = read_curves(part(input, 0, end));
-    let answer = curves.answer;
-    match answer {
-        Answer::Refused(found) => write_refusal(out, found, b"curves"),
-        Answer::Accepted => {
-            let p = price(curves.set, part(input, end + 1, input.len()));
-            match p {
-                Pricing::Refused(found) => write_refusal(out, found, b"snapshot"),
-                Pricing::Priced(prices) => print_prices(prices, out),
-            }
-        }
+    match read_curves(&input[..end]) {
+        Ok(curves) => match price(curves, part(input, end + 1, input.len())) {
+            Ok(prices) => print_prices(prices, out),
+            Err(found) => write_refusal(out, found, b"snapshot"),
+        },
+        Err(found) => write_refusal(out, found, b"curves"),
     }
 }

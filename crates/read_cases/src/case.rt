@@ -2,12 +2,12 @@
 use crate::show::{next_line, show_fault};
 use std::io;
 use std::io::Write;
-use text_id::{Id, id_of};
+use text_id::is_id;
+use text_line::end_at;
 use text_line::line::{line_value, value_fault};
-use text_line::{Lines, end_at};
-use text_number::{Number, number_of, number_refusal};
+use text_number::{number_of, number_refusal};
 use text_schema::read_lines;
-use text_word::{Word, is_word};
+use text_word::is_word;
 
 pub(crate) fn number_case(
     out: &mut impl Write,
@@ -18,41 +18,26 @@ pub(crate) fn number_case(
 ) -> io::Result<()> {
     let value = line_value(text, at, b"x=");
     let n = number_of(value, low, high);
-    let Number::Value(z) = n else {
+    let Ok(z) = n else {
         return show_fault(out, text, value_fault(text, at, b"x=", number_refusal(n)));
     };
     writeln!(out, "value={z} next={}", next_line(at, b"x=", value))
 }
 
-// Which status a value is, in the order of document 01.
-fn status_of(value: &[u8]) -> Word {
-    if is_word(value, b"ON") {
-        return Word::Index(0);
-    }
-    if is_word(value, b"OFF") {
-        return Word::Index(1);
-    }
-    if is_word(value, b"OFFNS") {
-        return Word::Index(2);
-    }
-    if is_word(value, b"ONTEST") {
-        return Word::Index(3);
-    }
-    if is_word(value, b"STARTUP") {
-        return Word::Index(4);
-    }
-    if is_word(value, b"SHUTDOWN") {
-        return Word::Index(5);
-    }
-    if is_word(value, b"OUT") {
-        return Word::Index(6);
-    }
-    Word::Unknown
-}
+// The words of a status, in the order of document 01.
+const STATUSES: [&[u8]; 7] = [
+    b"ON",
+    b"OFF",
+    b"OFFNS",
+    b"ONTEST",
+    b"STARTUP",
+    b"SHUTDOWN",
+    b"OUT",
+];
 
 pub(crate) fn word_case(out: &mut impl Write, text: &[u8]) -> io::Result<()> {
     let value = line_value(text, 0, b"status=");
-    let Word::Index(index) = status_of(value) else {
+    let Some(index) = STATUSES.iter().position(|word| is_word(value, word)) else {
         return show_fault(out, text, value_fault(text, 0, b"status=", 6));
     };
     writeln!(
@@ -64,9 +49,9 @@ pub(crate) fn word_case(out: &mut impl Write, text: &[u8]) -> io::Result<()> {
 
 pub(crate) fn id_case(out: &mut impl Write, text: &[u8], key: &[u8]) -> io::Result<()> {
     let value = line_value(text, 0, key);
-    let Id::Valid = id_of(value) else {
+    if !is_id(value) {
         return show_fault(out, text, value_fault(text, 0, key, 6));
-    };
+    }
     out.write_all(b"id=")?;
     out.write_all(value)?;
     writeln!(out, " next={}", next_line(0, key, value))
@@ -76,14 +61,12 @@ pub(crate) fn lines_case(out: &mut impl Write, text: &[u8]) -> io::Result<()> {
     let lows = [1i64, 0, -20];
     let highs = [12i64, 23, 20];
     let mut values = [0i64; 3];
-    match read_lines(text, 0, b"month=hour=tie=", &lows, &highs, &mut values) {
-        Lines::Refused(fault) => show_fault(out, text, fault),
-        Lines::Read { next } => match end_at(text, next) {
-            Lines::Refused(fault) => show_fault(out, text, fault),
-            Lines::Read { next: end } => {
-                let [month, hour, tie] = values;
-                writeln!(out, "values={month},{hour},{tie} next={end}")
-            }
-        },
+    let read = read_lines(text, 0, b"month=hour=tie=", &lows, &highs, &mut values);
+    match read.and_then(|next| end_at(text, next)) {
+        Ok(end) => {
+            let [month, hour, tie] = values;
+            writeln!(out, "values={month},{hour},{tie} next={end}")
+        }
+        Err(fault) => show_fault(out, text, fault),
     }
 }

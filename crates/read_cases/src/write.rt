@@ -1,13 +1,13 @@
 // The cases of the writer: lines by a schema, written into buffers of full stops.
 use std::io;
 use std::io::Write;
-use text_writer::{Written, write_lines};
+use text_writer::write_lines;
 
 fn write_case(out: &mut impl Write, buffer: &mut [u8]) -> io::Result<()> {
     let values = [7i64, 14, -3];
     match write_lines(buffer, 0, b"month=hour=tie=", &values) {
-        Written::Ended { next } => writeln!(out, "written={next}")?,
-        Written::Short => writeln!(out, "refused=14 line=0")?,
+        Some(next) => writeln!(out, "written={next}")?,
+        None => writeln!(out, "refused=14 line=0")?,
     }
     out.write_all(buffer)?;
     writeln!(out)

@@ -17,7 +17,6 @@ use program_price::price_text;
 use std::io;
 use std::io::{Read, Write};
 use text_line::piece::{part, piece_end};
-use text_writer::Written;
 
 // The arrays that an operation is lent are shown on a refusal too, where they have to stand as before.
 fn book(input: &mut impl Read, out: &mut impl Write, text: &[u8]) -> io::Result<()> {
@@ -112,7 +111,7 @@ fn show_printed(out: &mut impl Write, output: &[u8]) -> io::Result<()> {
 fn run_price(out: &mut impl Write, input: &[u8]) -> io::Result<()> {
     let mut output = [0u8; 768];
     let written = price_text(input, &mut output);
-    let Written::Ended { next } = written else {
+    let Some(next) = written else {
         return Ok(());
     };
     show_printed(out, part(&output, 0, next))
@@ -122,7 +121,7 @@ fn run_price(out: &mut impl Write, input: &[u8]) -> io::Result<()> {
 fn run_page(out: &mut impl Write, input: &[u8]) -> io::Result<()> {
     let mut output = [0u8; 1728];
     let written = page_text(input, &mut output);
-    let Written::Ended { next } = written else {
+    let Some(next) = written else {
         return Ok(());
     };
     show_printed(out, part(&output, 0, next))
