@@ -4,3 +4,4 @@ pub mod Bounds
 pub mod Order
 pub mod Prices
 pub mod Steps
+pub mod Tested

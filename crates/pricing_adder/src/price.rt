@@ -1,11 +1,9 @@
 // The two reserve prices.
-ghost use Rattle.std.specs.Prelude.{◌≤◌, ◌≡◌, true};
-ghost use Rattle.curve_set.specs.Curves.{curves_in_range};
-ghost use Rattle.pricing_sums.specs.Header.{header_fault};
-ghost use Rattle.pricing_sums.specs.Sums.{sums_possible};
-ghost use Rattle.pricing_adder.specs.Price.{pair_for, rounded, prices_of, price_values, sums_priced};
+ghost use Rattle.std.specs.Prelude.{◌≤◌, ◌≡◌, nat_abs};
+ghost use Rattle.pricing_adder.specs.Reserve.{online_reserve, total_reserve};
+ghost use Rattle.pricing_adder.specs.Price.{pair_for, shortage_online, shortage_offline, value_of_reserve, rounded, prices_of, price_values, sums_priced};
 
-use crate::reserve::{higher, reserve_of, total_reserve, twice_online};
+use crate::reserve::Tested;
 use curve_group::group_of;
 use curve_probability::{offline_probability, online_probability};
 use curve_set::{CurveSet, Pair, curves_in_range};
@@ -41,47 +39,74 @@ pub fn price_values(p: Prices) -> [i64; 6]
 }
 
 // A value times a share of two, rounded half up.
+#[tactic(auto, unfolding(crate::specs::Price::rounded))]
 fn rounded_share(value: u64, share: u64) -> u64
-    requires fact_1 { value ≤ 4000000 }
-    requires fact_2 { share ≤ 2000000000 }
+    requires value_bound { value ≤ 4000000 }
+    requires share_bound { share ≤ 2000000000 }
     ensures { result ≡ rounded value share }
 {
     (value * share + 1000000000) / 2000000000
 }
 
-// The mean and the spread of the header's group.
-fn pair_for(curves: CurveSet, header: Header) -> Pair
-    requires { header_fault header ≡ 0 }
-    ensures { result ≡ pair_for curves header }
-{
-    let group = group_of(magnitude(header.month), magnitude(header.hour)) as usize;
-    curves.pairs[group]
+// Both probabilities, in billionths.
+#[derive(Drop)]
+struct Shortages {
+    online: u64,
+    offline: u64,
 }
 
-// Both prices, each rounded once.
-fn both_prices(curves: CurveSet, header: Header, sums: Sums) -> Prices
-    requires fact_1 { curves_in_range curves ≡ true }
-    requires fact_2 { sums_possible sums ≡ true }
-    requires fact_3 { header_fault header ≡ 0 }
-    ensures { result ≡ prices_of curves header sums }
-{
-    let pair = pair_for(curves, header);
-    let floor = curves.floor as i32;
-    let mean = pair.mean as i32;
-    let spread = magnitude(pair.spread) as u32;
-    let rs = reserve_of(header, twice_online(sums));
-    let rsns = total_reserve(header, sums);
-    let pis = online_probability(rs, floor, mean, spread);
-    let pins = offline_probability(rsns, floor, mean, spread);
+impl Tested {
+    // The mean and the spread of the header's group.
+    fn pair(self) -> Pair
+        ensures value { result ≡ pair_for self.curves self.header }
+        ensures mean_bound { nat_abs result.mean ≤ 20000000 }
+        ensures spread_bound { nat_abs result.spread ≤ 20000000 }
+    {
+        let group = group_of(magnitude(self.header.month), magnitude(self.header.hour));
+        self.curves.pairs[group as usize]
+    }
+
     // v = max(0, VOLL - lambda).
-    let value = magnitude(higher(0, curves.voll - header.lambda));
-    Prices {
-        rs,
-        rsns,
-        pis: pis as u32,
-        pins: pins as u32,
-        online: rounded_share(value, pis + pins) as u32,
-        offline: rounded_share(value, pins) as u32,
+    fn value(self) -> u64
+        ensures value { result ≡ value_of_reserve self.curves self.header }
+        ensures bound { result ≤ 4000000 }
+    {
+        magnitude((self.curves.voll - self.header.lambda).max(0))
+    }
+
+    // piS of RS and piNS of RSNS.
+    fn shortages(self, rs: i64, rsns: i64) -> Shortages
+        requires online { rs ≡ online_reserve self.header self.sums }
+        requires total { rsns ≡ total_reserve self.header self.sums }
+        ensures online { result.online ≡ shortage_online self.curves self.header self.sums }
+        ensures offline { result.offline ≡ shortage_offline self.curves self.header self.sums }
+    {
+        let pair = self.pair();
+        let floor = self.curves.floor as i32;
+        let mean = pair.mean as i32;
+        let spread = magnitude(pair.spread) as u32;
+        Shortages {
+            online: online_probability(rs, floor, mean, spread),
+            offline: offline_probability(rsns, floor, mean, spread),
+        }
+    }
+
+    // Both prices, each rounded once.
+    fn prices(self) -> Prices
+        ensures { result ≡ prices_of self.curves self.header self.sums }
+    {
+        let rs = self.online_reserve();
+        let rsns = self.total_reserve();
+        let s = self.shortages(rs, rsns);
+        let value = self.value();
+        Prices {
+            rs,
+            rsns,
+            pis: s.online as u32,
+            pins: s.offline as u32,
+            online: rounded_share(value, s.online + s.offline) as u32,
+            offline: rounded_share(value, s.offline) as u32,
+        }
     }
 }
 
@@ -97,5 +122,10 @@ pub fn price_sums(curves: CurveSet, header: Header, sums: Sums) -> Result<Prices
     if line != 0 {
         return Err(Refusal { number: 7, line });
     }
-    Ok(both_prices(curves, header, sums))
+    let tested = Tested {
+        curves,
+        header,
+        sums,
+    };
+    Ok(tested.prices())
 }
