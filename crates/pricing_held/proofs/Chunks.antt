@@ -1,7 +1,7 @@
 -- The rows of numbers, cut from the slice, are the rows held.
 use Prim.Native.Nat.{ℕ, zero, suc, ◌+◌, ◌*◌, ◌/◌, ◌≤◌}
 use native.Mathlib.Omega.{arith}
-use mathlib.Core.List.{List, ◌∷◌}
+use mathlib.Core.List.{List, [], ◌∷◌}
 use mathlib.Core.Path.{◌≡◌, refl, ap, ◌∙◌}
 use lib.IntN.{ℤ, pos}
 use lib.ListN.{take, drop, length}
@@ -12,6 +12,19 @@ use Rattle.text_id_table.specs.Ids.{id_at}
 use Rattle.text_schema.specs.Schema.{value}
 use Rattle.pricing_held.specs.Rows.{held_count, row_at, rows_from, held_rows}
 use Rattle.pricing_held.specs.internal.Checks.{row_in, rows_in}
+
+-- ---- laws of the definition of rows one after the other
+
+module _ (ids : List ℕ) (i : ℕ) where
+  pub rows_in_none : rows_in ids i [] ≡ []
+  unfolding rows_in
+  rows_in_none = refl
+
+  pub rows_in_more : (values : List ℤ) (rows : List (List ℤ)) → rows_in ids i (values ∷ rows) ≡ row_in (id_at 0 ids (32 * i)) values ∷ rows_in ids (suc i) rows
+  unfolding rows_in
+  rows_in_more values rows = refl
+
+-- ---- the rows cut from a slice
 
 pub length_chunks : {A : Type 0} (n k : ℕ) (xs : List A) → length (first_chunks n k xs) ≡ k
 length_chunks n zero xs = refl

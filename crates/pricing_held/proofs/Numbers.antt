@@ -10,12 +10,12 @@ use lib.IntN.{ℤ, pos}
 use lib.ListN.{length, drop, get_or, drop_of_length-le}
 use lib.Seq.{drop-cons}
 use lib.Signed.{le_z}
+use Rattle.std.specs.Prelude.{Ok, Err}
 use Rattle.integer.specs.Range.{within}
-use Rattle.text_refusal.specs.Answer.{refusal, followed_by}
-use Rattle.text_refusal.specs.declared.answer.Answer.{Answer}
-use Rattle.text_refusal.specs.declared.answer.Answer.TheVariants as answer
+use Rattle.text_refusal.specs.Answer.{Answer, refusal, followed_by}
 use Rattle.text_line.specs.Field.{Field}
-use Rattle.text_number.specs.Marked.{Marked, marked_field, first_marked, marked_by}
+use Rattle.text_number.specs.declared.marked.Marked.{Marked}
+use Rattle.text_number.specs.Marked.{marked_field, first_marked, marked_by}
 use Rattle.text_number.proofs.Marks.{by_first}
 use Rattle.text_schema.specs.Checked.{checked_line, checked_lines, first_refused}
 use Rattle.text_schema.proofs.Checked.{checked_none, checked_first, first_none, first_passed, first_here}
@@ -51,7 +51,7 @@ module _ {line : ℕ} {lows highs values : List ℤ} {i : ℕ} (so_far : Numbers
       let place : suc (line + i) ≡ line + suc i = omega arith in
       record { lows_long = so_far.lows_long; highs_long = so_far.highs_long; rest = rw (numbers_due h, inside, add-one i, place) }
 
-  pub numbers_over : length values ≤ i → answer.Accepted ≡ numbers_checked line lows highs values
+  pub numbers_over : length values ≤ i → Ok tt ≡ numbers_checked line lows highs values
   unfolding numbers_checked
   numbers_over h = rw (so_far.rest, drop_of_length-le values {i = i} h)
 
@@ -91,9 +91,9 @@ marked_alone {fields} {lows} {highs} lines line marks numbers others e =
     ∙ marked_by_schema lines [] line marks numbers others e
     ∙ rw (checked_none {A = Marked} (marked_by (marks_after (length lows) marks) others), first_none (line + length lows)) (go (numbers_checked line lows highs numbers))
   where
-    go : (found : Answer) → followed_by found answer.Accepted ≡ found
-    go answer.Accepted = refl
-    go (answer.Refused found) = refl
+    go : (found : Answer) → followed_by found (Ok tt) ≡ found
+    go (Ok tt) = refl
+    go (Err found) = refl
 
 -- a flag before others: a mark refuses it
 pub flag_by_schema :
@@ -107,7 +107,7 @@ flag_by_schema key rest line marks z others =
   where
     go : (b inside : Bool) → (checked_line (flag key) (record { number = z; suspect = first_marked marks })).number ≡ cond b 6 (cond inside 0 7) →
         first_refused line (checked_line (flag key) (record { number = z; suspect = first_marked marks }) ∷ checked_lines rest (marked_by (marks / 2) others)) ≡
-        followed_by (cond b (refusal 6 line) (cond inside answer.Accepted (refusal 7 line))) (first_refused (suc line) (checked_lines rest (marked_by (marks / 2) others)))
+        followed_by (cond b (refusal 6 line) (cond inside (Ok tt) (refusal 7 line))) (first_refused (suc line) (checked_lines rest (marked_by (marks / 2) others)))
     go true inside n = first_here line (checked_line (flag key) (record { number = z; suspect = first_marked marks })) (checked_lines rest (marked_by (marks / 2) others)) (rw n) ∙ ap (λ (number : ℕ). refusal number line) n
     go false true n = first_passed line (checked_line (flag key) (record { number = z; suspect = first_marked marks })) (checked_lines rest (marked_by (marks / 2) others)) n
     go false false n = first_here line (checked_line (flag key) (record { number = z; suspect = first_marked marks })) (checked_lines rest (marked_by (marks / 2) others)) (rw n) ∙ ap (λ (number : ℕ). refusal number line) n

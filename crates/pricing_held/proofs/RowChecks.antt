@@ -1,16 +1,13 @@
 -- Laws on checking a row: its id is ill-formed, stands above or is new, and then the rest of its lines decide.
 use Prim.Native.Nat.{ℕ, zero, suc, ◌+◌, ◌*◌, ◌≤◌, ◌<◌}
 use native.Mathlib.Omega.{arith}
-use mathlib.Core.Bool.{true, false}
+use mathlib.Core.Bool.{Bool, true, false}
 use mathlib.Core.List.{List, ◌∷◌}
 use mathlib.Core.Path.{◌≡◌, refl, sym, ap, ◌∙◌}
 use lib.IntN.{ℤ}
 use lib.ListN.{get_or, set}
-use Rattle.text_refusal.specs.Answer.{refusal}
-use Rattle.text_refusal.specs.declared.answer.Answer.{Answer}
-use Rattle.text_id.specs.Id.{id_in}
-use Rattle.text_id.specs.declared.Id.{Id}
-use Rattle.text_id.specs.declared.Id.TheVariants as id
+use Rattle.text_refusal.specs.Answer.{Answer, refusal}
+use Rattle.text_id.specs.Id.{is_id}
 use Rattle.text_id_table.specs.Ids.{id_at, stands_in}
 use Rattle.text_id_table.specs.Table.{slot_of}
 use Rattle.text_id_table.proofs.Table.{slot_filled, slot_empty, table_more}
@@ -25,10 +22,10 @@ use Rattle.pricing_held.proofs.RowLines.{line_refused, line_passed}
 -- ---- the id's line
 
 module _ (above : List (List ℕ)) (bytes : List ℕ) where
-  pub id_ill_formed : id_in bytes ≡ id.Malformed → (id_line above bytes).number ≡ 6
+  pub id_ill_formed : is_id bytes ≡ false → (id_line above bytes).number ≡ 6
   id_ill_formed e = rw e
 
-  module _ (valid : id_in bytes ≡ id.Valid) where
+  module _ (valid : is_id bytes ≡ true) where
     pub id_repeated : stands_in bytes above ≡ true → (id_line above bytes).number ≡ 8
     id_repeated stands = rw (valid, stands)
 
@@ -59,8 +56,8 @@ module _ (id : List ℕ) (values : List ℤ) where
 
 -- ---- what checking a row gives
 
-module _ (ids : List ℕ) (i : ℕ) (values : List ℤ) (line : ℕ) {found : Id} (is : found ≡ id_in (id_at 0 ids (32 * i))) {starts : List ℕ} where
-  pub checked_ill_formed : {starts' : List ℕ} → found ≡ id.Malformed → RowChecked (row_in (id_at 0 ids (32 * i)) values) line ids starts starts' (refusal 6 line)
+module _ (ids : List ℕ) (i : ℕ) (values : List ℤ) (line : ℕ) {found : Bool} (is : found ≡ is_id (id_at 0 ids (32 * i))) {starts : List ℕ} where
+  pub checked_ill_formed : {starts' : List ℕ} → found ≡ false → RowChecked (row_in (id_at 0 ids (32 * i)) values) line ids starts starts' (refusal 6 line)
   checked_ill_formed told =
       record {
         answers = λ above table one.
@@ -69,7 +66,7 @@ module _ (ids : List ℕ) (i : ℕ) (values : List ℤ) (line : ℕ) {found : Id
         table = λ above table one e. let z : ◌≡◌ {A = ℕ} 0 1 = cc in absurd (omega arith);
       }
 
-  module _ (told : found ≡ id.Valid) {slot : ℕ} (at_slot : slot ≡ slot_of 0 ids starts (id_at 0 ids (32 * i))) where
+  module _ (told : found ≡ true) {slot : ℕ} (at_slot : slot ≡ slot_of 0 ids starts (id_at 0 ids (32 * i))) where
     pub checked_repeated : {starts' : List ℕ} → 0 < get_or starts slot 0 → RowChecked (row_in (id_at 0 ids (32 * i)) values) line ids starts starts' (refusal 8 line)
     checked_repeated some =
         record {

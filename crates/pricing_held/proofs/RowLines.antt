@@ -9,14 +9,14 @@ use lib.Dec.{eqb}
 use lib.IntN.{ℤ, pos, neg_ℤ, nat_abs}
 use lib.ListN.{length, take, drop, replicate, length-drop, take-append-drop}
 use lib.Seq.{take-take, take-suc, drop-cons, get_or-drop, length-take-le}
-use Rattle.text_refusal.specs.Answer.{refusal, followed_by}
+use Rattle.std.specs.Prelude.{Ok, Err}
+use Rattle.text_refusal.specs.Answer.{Answer, refusal, followed_by}
 use Rattle.text_refusal.specs.Bytes.{bytes}
 use Rattle.text_refusal.specs.declared.refusal.Refusal.{Refusal}
-use Rattle.text_refusal.specs.declared.answer.Answer.TheVariants as answer
-use Rattle.text_refusal.specs.declared.answer.Answer.{Answer}
 use Rattle.text_schema.specs.Schema.{value}
 use Rattle.text_schema.specs.Checked.{CheckedLine, checked_line, checked_lines, first_refused}
-use Rattle.text_number.specs.Marked.{Marked, first_marked, marked_by}
+use Rattle.text_number.specs.declared.marked.Marked.{Marked}
+use Rattle.text_number.specs.Marked.{first_marked, marked_by}
 use Rattle.text_schema.proofs.Checked.{checked_none, first_none, first_passed, first_here}
 use Rattle.text_schema.proofs.Marks.{marks_after}
 use Rattle.pricing_resource_text.specs.Resource.{kind_field, status_field, flag, generator_fields, controllable_fields}
@@ -35,9 +35,9 @@ line_refused line number due lines e some = sym (first_here line due lines (rw e
 pub line_passed : (line : ℕ) (due : CheckedLine) (lines : List CheckedLine) {found : Answer} → due.number ≡ 0 → found ≡ first_refused (line + 1) lines → found ≡ first_refused line (due ∷ lines)
 line_passed line due lines e is = is ∙ rw (add-one line) (sym (first_passed line due lines e))
 
-accepted_last : (found : Answer) → followed_by found answer.Accepted ≡ found
-accepted_last answer.Accepted = refl
-accepted_last (answer.Refused found) = refl
+accepted_last : (found : Answer) → followed_by found (Ok tt) ≡ found
+accepted_last (Ok tt) = refl
+accepted_last (Err found) = refl
 
 -- ---- the lines after the kind's
 
@@ -102,11 +102,11 @@ module _ (values : List ℤ) (line : ℕ) where
       -- the first five numbers of a generator decide, or its flag does
       pub generator_refused :
           place_of (value values 1) ≤ 6 → found ≡ numbers_checked (line + 1) (neg_ℤ (pos 2000000) ∷ replicate 4 (pos 0)) (replicate 5 (pos 2000000)) (take 5 (drop 2 values)) →
-          {told : Refusal} → found ≡ answer.Refused told → found ≡ first_refused line (lines_of_kind 0 (row_of values))
+          {told : Refusal} → found ≡ Err told → found ≡ first_refused line (lines_of_kind 0 (row_of values))
       generator_refused h is refused = sym (generator_answer h ∙ rw (← is, refused) refl)
 
       pub generator_checked :
-          place_of (value values 1) ≤ 6 → answer.Accepted ≡ numbers_checked (line + 1) (neg_ℤ (pos 2000000) ∷ replicate 4 (pos 0)) (replicate 5 (pos 2000000)) (take 5 (drop 2 values)) →
+          place_of (value values 1) ≤ 6 → Ok tt ≡ numbers_checked (line + 1) (neg_ℤ (pos 2000000) ∷ replicate 4 (pos 0)) (replicate 5 (pos 2000000)) (take 5 (drop 2 values)) →
           {marked : Bool} → marked ≡ first_marked (row_marks / 32) → found ≡ flag_checked (line + 6) marked (value values 7) → found ≡ first_refused line (lines_of_kind 0 (row_of values))
       generator_checked h passed mark is =
           let halves : marks_after 5 row_marks % 2 ≡ row_marks / 32 % 2 = omega arith in
@@ -121,12 +121,12 @@ module _ (values : List ℤ) (line : ℕ) where
 
       -- the flag of another load decides, or its three numbers do
       pub load_refused :
-          {marked : Bool} → marked ≡ first_marked row_marks → found ≡ flag_checked line marked (value values 2) → {told : Refusal} → found ≡ answer.Refused told →
+          {marked : Bool} → marked ≡ first_marked row_marks → found ≡ flag_checked line marked (value values 2) → {told : Refusal} → found ≡ Err told →
           found ≡ first_refused line (lines_of_kind 5 (row_of values))
       load_refused mark is refused = sym (load_answer ∙ rw (← mark, ← is, refused) refl)
 
       pub load_checked :
-          {marked : Bool} → marked ≡ first_marked row_marks → answer.Accepted ≡ flag_checked line marked (value values 2) →
+          {marked : Bool} → marked ≡ first_marked row_marks → Ok tt ≡ flag_checked line marked (value values 2) →
           found ≡ numbers_checked (line + 1) (replicate 3 (pos 0)) (replicate 3 (pos 2000000)) (take 3 (drop 3 values)) → found ≡ first_refused line (lines_of_kind 5 (row_of values))
       load_checked mark passed is = is ∙ sym (load_answer ∙ rw (← mark, ← passed))
 

@@ -10,10 +10,9 @@ use lib.Dec.{ltb}
 use lib.IntN.{ℤ}
 use lib.ListN.{length, take, drop, get_or, length-drop, drop_of_length-le}
 use lib.Seq.{drop-cons, length-take-le}
-use Rattle.text_refusal.specs.Answer.{followed_by}
+use Rattle.std.specs.Prelude.{Ok, Err}
+use Rattle.text_refusal.specs.Answer.{Answer, followed_by}
 use Rattle.text_refusal.specs.declared.refusal.Refusal.{Refusal}
-use Rattle.text_refusal.specs.declared.answer.Answer.{Answer}
-use Rattle.text_refusal.specs.declared.answer.Answer.TheVariants as answer
 use Rattle.text_id_table.specs.Ids.{id_at}
 use Rattle.text_id_table.specs.internal.Kept.{IdTable, RoomForOne, Room}
 use Rattle.text_id_table.proofs.Table.{table_room}
@@ -86,7 +85,7 @@ rows_start table room held =
 
 module _
     {ids : List ℕ} {rows : List (List ℤ)} {starts₀ starts : List ℕ} {line i : ℕ} (so_far : RowsUnderWay ids rows starts₀ starts line i) where
-  pub rows_over : length rows ≤ i → answer.Accepted ≡ first_refused 9 (rows_lines [] (rows_in ids 0 rows))
+  pub rows_over : length rows ≤ i → Ok tt ≡ first_refused 9 (rows_lines [] (rows_in ids 0 rows))
   unfolding rows_in rows_lines
   rows_over h = sym (so_far.rest ∙ rw (drop_of_length-le rows {i = i} h) (first_none line))
 
@@ -119,12 +118,12 @@ module _
         row_answer = checked.answers so_far.above so_far.table one_left
 
         -- a line of the row is refused
-        pub rows_stop : {told : Refusal} → found ≡ answer.Refused told → found ≡ first_refused 9 (rows_lines [] (rows_in ids 0 rows))
+        pub rows_stop : {told : Refusal} → found ≡ Err told → found ≡ first_refused 9 (rows_lines [] (rows_in ids 0 rows))
         rows_stop is = is ∙ sym (rw (one_due, ← row_answer, is))
 
         -- one more row is checked
         pub rows_next :
-            {count_of : ℕ} → found ≡ answer.Accepted → count_of ≡ line_count (place_of (value values 0)) → 9 ≤ length values → length starts' ≡ length starts →
+            {count_of : ℕ} → found ≡ Ok tt → count_of ≡ line_count (place_of (value values 0)) → 9 ≤ length values → length starts' ≡ length starts →
             RowsUnderWay ids rows starts₀ starts' (line + count_of) (i + 1)
         rows_next {count_of} is counts nine l =
             let lines : count_of ≡ length (row_lines so_far.above due) = counts ∙ sym (row_count (id_at 0 ids (32 * i)) values so_far.above nine) in

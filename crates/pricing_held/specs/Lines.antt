@@ -1,10 +1,8 @@
 -- Document 02, W-204: the lines of a snapshot held as values, each with the number by which it is refused: 7 for a value out of range, 6 for an ill-formed or empty
 -- id, 8 for a repeated one, and 6 for a kind or a status outside its list, or for a flag that is marked. The earliest line comes first. Then 15 (W-206).
-use Rattle.std.specs.Prelude.{ℕ, zero, suc, cond, List, [], ◌∷◌, ◌++◌, eqb, ℤ}
+use Rattle.std.specs.Prelude.{ℕ, zero, suc, cond, List, [], ◌∷◌, ◌++◌, eqb, ℤ, Ok}
 use Rattle.text_refusal.specs.Bytes.{bytes}
-use Rattle.text_refusal.specs.Answer.{refusal, followed_by}
-use Rattle.text_refusal.specs.declared.answer.Answer.{Answer}
-use Rattle.text_refusal.specs.declared.answer.Answer.TheVariants as answer
+use Rattle.text_refusal.specs.Answer.{Answer, refusal, followed_by}
 use Rattle.text_id.specs.Id.{id_field}
 use Rattle.text_id_table.specs.Ids.{stands_in}
 use Rattle.text_schema.specs.Checked.{CheckedLine, checked_line, checked_lines, text_of, first_refused}
@@ -56,7 +54,7 @@ held_lines header ids numbers = header_checked (header_held header (held_count i
 
 -- 15 at a line, or nothing at 0
 abbrev pub suspect_answer : ℕ → Answer
-suspect_answer line = cond (eqb line 0) answer.Accepted (refusal 15 line)
+suspect_answer line = cond (eqb line 0) (Ok tt) (refusal 15 line)
 
 -- the first refused line, then 15 with that of the first marked number on a unit where that turns the snapshot back
 unfoldable pub held_answer : List ℤ → List ℕ → List ℤ → Answer

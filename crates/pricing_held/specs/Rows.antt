@@ -2,7 +2,8 @@
 -- 32 bytes for each resource; `numbers`, a row of 9 numbers for each resource.
 use Rattle.std.specs.Prelude.{ℕ, zero, suc, ◌+◌, ◌*◌, ◌/◌, min, cond, List, [], ◌∷◌, map, ℤ, pos, nat_abs, length, take, drop}
 use Rattle.std.specs.Int.Signed.{lt_z}
-use Rattle.text_number.specs.Marked.{Marked, marked_by}
+use Rattle.text_number.specs.declared.marked.Marked.{Marked}
+use Rattle.text_number.specs.Marked.{marked_by}
 use Rattle.text_schema.specs.Schema.{value}
 use Rattle.text_id_table.specs.Ids.{id_at}
 use Rattle.pricing_sums.specs.declared.header.Header.{Header}

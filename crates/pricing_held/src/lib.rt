@@ -3,6 +3,7 @@
 #![tactic(auto)]
 
 ghost use Rattle.std.specs.Prelude.{◌≡◌, ◌≤◌, ◌*◌, [], length};
+ghost use Rattle.std.specs.Simd.{first_chunks};
 ghost use Rattle.text_schema.specs.Checked.{first_refused};
 ghost use Rattle.pricing_held.specs.Rows.{held_count, place_of, header_held};
 ghost use Rattle.pricing_held.specs.Lines.{rows_lines, held_answer};
@@ -12,7 +13,6 @@ use crate::rows::check_rows;
 use crate::suspect::suspect_line;
 use integer::magnitude;
 use pricing_sums::header::{Header, header_fault};
-use text_refusal::answer::Answer;
 use text_refusal::refusal::Refusal;
 
 mod rows;
@@ -25,6 +25,16 @@ pub fn held_count(ids: &[u8], numbers: &[i64]) -> usize
     ensures { result ≡ held_count ids.now numbers.now }
 {
     (ids.len() / 32).min(numbers.len() / 9)
+}
+
+// The rows of numbers of the resources held.
+#[tactic(auto, using(crate::proofs::Chunks::rows_taken, crate::proofs::Chunks::length_chunks))]
+pub fn held_number_rows<'a>(ids: &[u8], numbers: &'a [i64]) -> &'a [[i64; 9]]
+    ensures rows { result.now ≡ first_chunks 9 (held_count ids.now numbers.now) numbers.now }
+    ensures count { length result.now ≡ held_count ids.now numbers.now }
+{
+    let (rows, _) = numbers.as_chunks::<9>();
+    &rows[..held_count(ids, numbers)]
 }
 
 // A number as a place in a list of words: one below 0 stands outside the list, as one above does.
@@ -56,7 +66,7 @@ fn header_held(header: &[i64; 8], count: usize) -> Header
 }
 
 // The first refused line of the rows; where they are few, the table of their ids is small.
-fn rows_checked(ids: &[u8], rows: &[[i64; 9]]) -> Answer
+fn rows_checked(ids: &[u8], rows: &[[i64; 9]]) -> Result<(), Refusal>
     requires { (length rows.now ≤ 4096) × (32 * length rows.now ≤ length ids.now) }
     ensures { result ≡ first_refused 9 (rows_lines [] (rows_in ids.now 0 rows.now)) }
 {
@@ -69,26 +79,21 @@ fn rows_checked(ids: &[u8], rows: &[[i64; 9]]) -> Answer
 }
 
 // Whether the text of a snapshot held as values can be written, or its first refused line, or the first that a mark turns back.
-pub fn held_check(header: &[i64; 8], ids: &[u8], numbers: &[i64]) -> Answer
+pub fn held_check(header: &[i64; 8], ids: &[u8], numbers: &[i64]) -> Result<(), Refusal>
     ensures { result ≡ held_answer header.now ids.now numbers.now }
 {
-    let count = held_count(ids, numbers);
-    let line = header_fault(header_held(header, count));
+    let rows = held_number_rows(ids, numbers);
+    let line = header_fault(header_held(header, rows.len()));
     if line != 0 {
-        return Answer::Refused(Refusal { number: 7, line });
+        return Err(Refusal { number: 7, line });
     }
-    let (rows, _) = numbers.as_chunks::<9>();
-    let rows = &rows[..count];
-    let found = rows_checked(ids, rows);
-    let Answer::Accepted = found else {
-        return found;
-    };
+    rows_checked(ids, rows)?;
     let suspect = suspect_line(rows);
     if suspect != 0 {
-        return Answer::Refused(Refusal {
+        return Err(Refusal {
             number: 15,
             line: suspect,
         });
     }
-    Answer::Accepted
+    Ok(())
 }

@@ -10,12 +10,11 @@ ghost use Rattle.pricing_held.specs.internal.Checks.{RowChecked, RowRoom, line_c
 
 use crate::place_of;
 use crate::values::check_values;
-use text_id::{Id, id_of};
+use text_id::is_id;
 use text_id_table::{id_at, slot_of};
-use text_refusal::answer::Answer;
 use text_refusal::refusal::Refusal;
 
-// How many lines a row has.
+// How many lines a row has, by its kind, which stays the number that hosts write: `lines_of_kind` of specs/Lines.antt goes by it.
 pub(crate) fn row_lines(values: &[i64; 9]) -> usize
     ensures { result ≡ line_count (place_of (value values.now 0)) }
 {
@@ -27,25 +26,30 @@ pub(crate) fn row_lines(values: &[i64; 9]) -> usize
 
 // A row: its first refused line, the row's first line being `line`. An id that is new is put into the table.
 #[tactic(auto, using(text_id_table::proofs::Table::slot_within, crate::proofs::RowChecks::checked_ill_formed, crate::proofs::RowChecks::checked_repeated, crate::proofs::RowChecks::checked_new))]
-fn check_row(ids: &[u8], i: usize, values: &[i64; 9], line: usize, starts: &mut [usize]) -> Answer
+fn check_row(
+    ids: &[u8],
+    i: usize,
+    values: &[i64; 9],
+    line: usize,
+    starts: &mut [usize],
+) -> Result<(), Refusal>
     requires { RowRoom ids.now i line starts.old }
     ensures { RowChecked (row_in (id_at 0 ids.now (32 * i)) values.now) line ids.now starts.old starts.new result }
 {
     let id = id_at(ids, 0, 32 * i);
-    let found = id_of(id);
-    let Id::Valid = found else {
-        return Answer::Refused(Refusal { number: 6, line });
-    };
+    if !is_id(id) {
+        return Err(Refusal { number: 6, line });
+    }
     let slot = slot_of(ids, 0, starts, id);
     if 0 < starts[slot] {
-        return Answer::Refused(Refusal { number: 8, line });
+        return Err(Refusal { number: 8, line });
     }
     starts[slot] = 32 * i + 1;
     check_values(values, line + 1)
 }
 
 // The rows, the first of them at line 9, their ids kept in a table that is empty.
-pub(crate) fn check_rows(ids: &[u8], rows: &[[i64; 9]], starts: &mut [usize]) -> Answer
+pub(crate) fn check_rows(ids: &[u8], rows: &[[i64; 9]], starts: &mut [usize]) -> Result<(), Refusal>
     requires fact_1 { IdTable 0 ids.now starts.old [] }
     requires fact_2 { Room (length rows.now) starts.old }
     requires fact_3 { 32 * length rows.now ≤ length ids.now }
@@ -53,11 +57,8 @@ pub(crate) fn check_rows(ids: &[u8], rows: &[[i64; 9]], starts: &mut [usize]) ->
 {
     let mut line: usize = 9;
     for (i, values) in rows.iter().enumerate() {
-        let found = check_row(ids, i, values, line, starts);
-        let Answer::Accepted = found else {
-            return found;
-        };
+        check_row(ids, i, values, line, starts)?;
         line += row_lines(values);
     }
-    Answer::Accepted
+    Ok(())
 }

@@ -32,8 +32,9 @@ fn flag_of(z: i64) -> i32
     0
 }
 
-// Which line of a row, the id's being 1, holds its first marked number where that turns the snapshot back; 0 where it does not. The verdict hangs on kind, status
-// and flag alone, so the other numbers are left out.
+// Which line of a row, the id's being 1, holds its first marked number where that turns the snapshot back; 0 where it does not, as the definition of `suspect_place`
+// says. The verdict hangs on kind, status and flag alone, so the other numbers are left out. The kind stays the number that hosts write: `resource_of_kind` of
+// specs/Rows.antt goes by it.
 #[tactic(auto, using(crate::proofs::Suspects::unmarked_place, crate::proofs::Suspects::generator_row, crate::proofs::Suspects::controllable_row, crate::proofs::Suspects::load_row))]
 fn row_place(values: &[i64; 9]) -> usize
     ensures { result ≡ suspect_place (resource_in values.now) }
@@ -74,7 +75,7 @@ fn row_place(values: &[i64; 9]) -> usize
     }))
 }
 
-// The first line of the rows that a mark turns back, the first row's id standing at line 9; 0 where there is none.
+// The first line of the rows that a mark turns back, the first row's id standing at line 9; 0 where there is none, as the definition of `suspect_line` says.
 pub(crate) fn suspect_line(rows: &[[i64; 9]]) -> usize
     requires { length rows.now ≤ 4096 }
     ensures { result ≡ suspect_line (map resource_in rows.now) }

@@ -2,18 +2,15 @@
 use Prim.Native.Nat.{ℕ, ◌≤◌, ◌<◌}
 use native.Mathlib.Omega.{arith}
 use mathlib.Core.List.{List}
-use mathlib.Core.Path.{◌≡◌, sym, ◌∙◌}
+use mathlib.Core.Path.{◌≡◌, sym, ap, ◌∙◌}
 use lib.IntN.{ℤ, nat_abs}
 use lib.ListN.{length}
 use borrow.Author.Tests.{le-leb, lt-leb}
+use Rattle.std.specs.Prelude.{Result, Ok, Err}
 use Rattle.text_refusal.specs.Answer.{refusal}
 use Rattle.text_refusal.specs.declared.refusal.Refusal.{Refusal}
-use Rattle.text_refusal.specs.declared.answer.Answer.TheVariants as answer
-use Rattle.pricing_sums.specs.declared.header.Header.{Header}
-use Rattle.pricing_sums.specs.declared.Sums.{Sums}
 use Rattle.pricing_snapshot.specs.Snapshot.{Entry, SnapshotAnswer, read, refused_by, snapshot_in, snapshot_sums}
 use Rattle.pricing_snapshot.specs.declared.Snapshot.{Snapshot}
-use Rattle.pricing_snapshot.specs.declared.Snapshot.TheVariants as snapshot
 use Rattle.pricing_snapshot.proofs.Readings.{snapshot_read}
 use Rattle.pricing_held.specs.Rows.{held_count}
 use Rattle.pricing_held.proofs.Counts.{held_ids, held_numbers}
@@ -21,24 +18,27 @@ use Rattle.pricing_held_reading.specs.Reading.{reading_held, HeldRead}
 use Rattle.pricing_held_reading.specs.internal.Laying.{SnapshotRoom, SnapshotLaid}
 
 -- what the answer with the sums tells of the one with the resources
-sums_refused : (a : SnapshotAnswer) {found : Refusal} → snapshot_sums a ≡ snapshot.Refused found → a ≡ refused_by found
+sums_refused : (a : SnapshotAnswer) {found : Refusal} → snapshot_sums a ≡ Err found → a ≡ refused_by found
 sums_refused (refused_by other) e = cc
 sums_refused (read h entries) e = cc
 
-sums_read : (a : SnapshotAnswer) {h : Header} {sums : Sums} → snapshot_sums a ≡ snapshot.Read h sums → (entries : List Entry) × (a ≡ read h entries)
+sums_read : (a : SnapshotAnswer) {said : Snapshot} → snapshot_sums a ≡ Ok said → (entries : List Entry) × (a ≡ read said.header entries)
 sums_read (refused_by other) e = let z : ◌≡◌ {A = ℕ} 0 1 = cc in absurd (omega arith)
-sums_read (read other entries) {h} e = (entries, cc)
+sums_read (read other entries) {said} e = (entries, go e)
+  where
+    go : {made : Snapshot} → ◌≡◌ {A = Result Snapshot Refusal} (Ok made) (Ok said) → read made.header entries ≡ read said.header entries
+    go {made} f = let same : made ≡ said = cc in ap (λ (one : Snapshot). read one.header entries) same
 
-module _ (text : List ℕ) (header : List ℤ) (ids : List ℕ) (numbers : List ℤ) {said : Snapshot} (is : said ≡ snapshot_sums (snapshot_in text)) where
-  pub held_refused : {found : Refusal} → said ≡ snapshot.Refused found → HeldRead text header ids numbers header ids numbers (answer.Refused found)
+module _ (text : List ℕ) (header : List ℤ) (ids : List ℕ) (numbers : List ℤ) {told : Result Snapshot Refusal} (is : told ≡ snapshot_sums (snapshot_in text)) where
+  pub held_refused : {found : Refusal} → told ≡ Err found → HeldRead text header ids numbers header ids numbers (Err found)
   unfolding reading_held
-  held_refused told =
-      let e = sums_refused (snapshot_in text) (sym is ∙ told) in
+  held_refused refused =
+      let e = sums_refused (snapshot_in text) (sym is ∙ refused) in
       record { ends = rw e; header_is = rw e; ids_are = rw e; numbers_are = rw e }
 
-  module _ {h : Header} {sums : Sums} (told : said ≡ snapshot.Read h sums) {count : ℕ} (counted : count ≡ nat_abs h.count) where
-    found : (entries : List Entry) × (snapshot_in text ≡ read h entries)
-    found = sums_read (snapshot_in text) (sym is ∙ told)
+  module _ {said : Snapshot} (accepted : told ≡ Ok said) {count : ℕ} (counted : count ≡ nat_abs said.header.count) where
+    found : (entries : List Entry) × (snapshot_in text ≡ read said.header entries)
+    found = sums_read (snapshot_in text) (sym is ∙ accepted)
 
     many : length found.0 ≡ count
     many = (snapshot_read text found.1).resources.counted ∙ sym counted
@@ -54,7 +54,7 @@ module _ (text : List ℕ) (header : List ℤ) (ids : List ℕ) (numbers : List 
       pub held_room : SnapshotRoom (snapshot_in text) count ids numbers
       held_room =
           record {
-            header = h;
+            header = said.header;
             entries = found.0;
             is = found.1;
             counted = counted;
@@ -64,7 +64,7 @@ module _ (text : List ℕ) (header : List ℤ) (ids : List ℕ) (numbers : List 
 
       pub held_laid :
           {header' : List ℤ} {ids' : List ℕ} {numbers' : List ℤ} → SnapshotLaid (snapshot_in text) ids numbers header' ids' numbers' →
-          HeldRead text header ids numbers header' ids' numbers' answer.Accepted
+          HeldRead text header ids numbers header' ids' numbers' (Ok tt)
       unfolding reading_held
       held_laid laid =
           let e = found.1 in

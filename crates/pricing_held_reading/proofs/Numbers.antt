@@ -13,7 +13,8 @@ use lib.Seq.{drop-cons, take-suc, set_at, take_all, length-take-le}
 use borrow.Author.Tests.{le-leb}
 use mir.Syntax.{w64}
 use mir.Val.{SFits}
-use Rattle.text_number.specs.Marked.{Marked, written_marked, numbers_of, marks_of}
+use Rattle.text_number.specs.declared.marked.Marked.{Marked}
+use Rattle.text_number.specs.Marked.{written_marked, numbers_of, marks_of}
 use Rattle.text_number.proofs.Marks.{marks_none, marks_last, marks_few}
 use Rattle.text_number.proofs.MarkedDigits.{marked_digits, marked_byte, marked_some, marked_below}
 use Rattle.text_schema.proofs.Marks.{no_marked}

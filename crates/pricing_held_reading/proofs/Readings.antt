@@ -10,15 +10,16 @@ use lib.Signed.{◌≤ℤ◌, le_z}
 use lib.ListN.{length, drop, length-map}
 use lib.Seq.{drop-cons, drop-length}
 use borrow.Author.Tests.{leb-true}
+use Rattle.std.specs.Prelude.{Ok}
 use Rattle.integer.proofs.Difference.{view, to_ℕ}
 use Rattle.integer.proofs.Order.{le_z-true}
 use Rattle.text_refusal.proofs.Choices.{and_left, and_right}
 use Rattle.text_line.specs.Judged.{good}
 use Rattle.text_line.specs.Field.{Field, LineAnswer, got, refused, field_at}
-use Rattle.text_line.specs.declared.Lines.TheVariants as lines
 use Rattle.text_line.proofs.FieldTexts.{field_read}
 use Rattle.text_line.proofs.LineBytes.{one_line_none}
-use Rattle.text_number.specs.Marked.{Marked, written_marked, marked_field, unmarked_field, numbers_of, marks_of, marked_by}
+use Rattle.text_number.specs.declared.marked.Marked.{Marked}
+use Rattle.text_number.specs.Marked.{written_marked, marked_field, unmarked_field, numbers_of, marks_of, marked_by}
 use Rattle.text_number.proofs.Marks.{marked_between, unmarked_between}
 use Rattle.text_schema.specs.Schema.{Reading, and_then, read_fields, value}
 use Rattle.text_schema.proofs.Fields.{computed_fields}
@@ -49,10 +50,10 @@ EachNumber [] = Unit
 EachNumber (field ∷ fields) = SmallNumber field × EachNumber fields
 
 fields_stand :
-    (fields : List (Field Marked)) → EachNumber fields → (text : List ℕ) (at : ℕ) {last : ℕ} → (read_fields fields text at).end ≡ lines.Read last →
+    (fields : List (Field Marked)) → EachNumber fields → (text : List ℕ) (at : ℕ) {last : ℕ} → (read_fields fields text at).end ≡ Ok last →
     NumbersStand text at (key_sizes fields) (read_fields fields text at).values last
 fields_stand [] each text at {last} e =
-    let over : lines.Read at ≡ lines.Read last = rw (reading_none {A = Marked} text at) at e in
+    let over : Ok at ≡ Ok last = rw (reading_none {A = Marked} text at) at e in
     rw (reading_none {A = Marked} text at) (let same : at ≡ last = cc in same)
 fields_stand (field ∷ fields) each text at {last} e =
     rw (reading_first field fields text at)
@@ -60,8 +61,8 @@ fields_stand (field ∷ fields) each text at {last} e =
   where
     go :
         (answer : LineAnswer Marked) → field_at field text at ≡ answer →
-        ((next : ℕ) → (read_fields fields text next).end ≡ lines.Read last → NumbersStand text next (key_sizes fields) (read_fields fields text next).values last) →
-        (and_then answer (λ next. read_fields fields text next)).end ≡ lines.Read last →
+        ((next : ℕ) → (read_fields fields text next).end ≡ Ok last → NumbersStand text next (key_sizes fields) (read_fields fields text next).values last) →
+        (and_then answer (λ next. read_fields fields text next)).end ≡ Ok last →
         NumbersStand text at (key_sizes (field ∷ fields)) (and_then answer (λ next. read_fields fields text next)).values last
     go (got m next) told others e =
         let read = field_read field text at told in
@@ -114,7 +115,7 @@ unmarked_each (key ∷ keys) (low ∷ lows) (high ∷ highs) l h = (
 
 pub plain_stand :
     (keys : List (List ℕ)) (lows highs : List ℤ) → all_bounded 1000000000 lows ≡ true → all_bounded 1000000000 highs ≡ true → (text : List ℕ) (at : ℕ) {last : ℕ} →
-    (read_fields (computed_fields keys lows highs) text at).end ≡ lines.Read last →
+    (read_fields (computed_fields keys lows highs) text at).end ≡ Ok last →
     NumbersStand text at (key_sizes (unmarked_fields keys lows highs)) (marked_by 0 (read_fields (computed_fields keys lows highs) text at).values) last
 plain_stand keys lows highs l h text at {last} e =
     let is = plain_read (unmarked_beside keys lows highs) text at last e in

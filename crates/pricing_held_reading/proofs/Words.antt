@@ -7,12 +7,12 @@ use mathlib.Core.Path.{◌≡◌, refl}
 use lib.Dec.{T, eqb, leb, lit≤}
 use lib.ListN.{length, get_or}
 use mir.Val.{bool_byte}
+use Rattle.std.specs.Prelude.{Some}
 use Rattle.text_refusal.specs.Bytes.{bytes}
 use Rattle.text_line.specs.Judged.{good}
 use Rattle.text_line.specs.Field.{got, field_at}
 use Rattle.text_line.proofs.FieldTexts.{field_read}
 use Rattle.text_word.specs.Word.{same_bytes, judged_word, word_field}
-use Rattle.text_word.specs.declared.Word.TheVariants as word
 use Rattle.text_word.proofs.Words.{same_is, computed_word, words_computed}
 use Rattle.pricing_resource_text.specs.Resource.{kind_words, kind_field, status_words, status_field}
 use Rattle.pricing_held_reading.specs.internal.Laying.{Got, Stands}
@@ -28,7 +28,7 @@ listed_from : (words : List (List ℕ)) (base k : ℕ) (bytes : List ℕ) → ju
 listed_from [] base k bytes e = let z : ◌≡◌ {A = ℕ} 0 1 = cc in absurd (omega arith)
 listed_from (known ∷ words) base k bytes e = go (same_bytes bytes known) refl (listed_from words (suc base) k bytes) e
   where
-    go : (b : Bool) → same_bytes bytes known ≡ b → (judged_word (computed_word (suc base) words bytes) ≡ good k → (i : ℕ) × (suc base + i ≡ k) × WordPlace words i bytes) → judged_word (cond b (word.Index base) (computed_word (suc base) words bytes)) ≡ good k → (i : ℕ) × (base + i ≡ k) × WordPlace (known ∷ words) i bytes
+    go : (b : Bool) → same_bytes bytes known ≡ b → (judged_word (computed_word (suc base) words bytes) ≡ good k → (i : ℕ) × (suc base + i ≡ k) × WordPlace words i bytes) → judged_word (cond b (Some base) (computed_word (suc base) words bytes)) ≡ good k → (i : ℕ) × (base + i ≡ k) × WordPlace (known ∷ words) i bytes
     go true same others e = let here : base ≡ k = cc in (0, omega arith, record { below = omega arith; is = same_is bytes known same })
     go false same others e =
         let found = others e in

@@ -1,9 +1,7 @@
 -- Document 02, W-204: a snapshot's text read into lent rows: 2, the lines with 3 to 8, 9, 15, then 14 where the rows are fewer than the resources. A refusal leaves
 -- all that was lent.
-use Rattle.std.specs.Prelude.{ℕ, ◌-◌, ◌≡◌, cond, List, [], ◌∷◌, ◌++◌, leb, ℤ, pos, length, replicate}
-use Rattle.text_refusal.specs.Answer.{refusal, lent_after_answer}
-use Rattle.text_refusal.specs.declared.answer.Answer.{Answer}
-use Rattle.text_refusal.specs.declared.answer.Answer.TheVariants as answer
+use Rattle.std.specs.Prelude.{ℕ, ◌-◌, ◌≡◌, cond, List, [], ◌∷◌, ◌++◌, leb, ℤ, pos, length, replicate, Ok, Err}
+use Rattle.text_refusal.specs.Answer.{Answer, refusal, lent_after_answer}
 use Rattle.text_schema.specs.Schema.{laid_over}
 use Rattle.pricing_resource.specs.declared.Kind.{Kind}
 use Rattle.pricing_resource.specs.declared.Kind.TheVariants as kind
@@ -56,8 +54,8 @@ number_rows (entry ∷ entries) = number_row entry.resource ++ number_rows entri
 
 -- the snapshot's own refusals, then 14 where there are fewer rows than resources
 abbrev pub reading_answer : ℕ → SnapshotAnswer → Answer
-reading_answer rows (refused_by found) = answer.Refused found
-reading_answer rows (read h entries) = cond (leb (length entries) rows) answer.Accepted (refusal 14 0)
+reading_answer rows (refused_by found) = Err found
+reading_answer rows (read h entries) = cond (leb (length entries) rows) (Ok tt) (refusal 14 0)
 
 unfoldable pub reading_held : List ℕ → List ℕ → List ℤ → Answer
 reading_held text ids numbers = reading_answer (held_count ids numbers) (snapshot_in text)

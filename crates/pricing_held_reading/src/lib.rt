@@ -12,8 +12,7 @@ use crate::rows::lay_rows;
 use crate::values::lay_numbers;
 use integer::magnitude;
 use pricing_held::held_count;
-use pricing_snapshot::{Snapshot, read_snapshot};
-use text_refusal::answer::Answer;
+use pricing_snapshot::read_snapshot;
 use text_refusal::refusal::Refusal;
 
 // The header and the resources of a text that was read already; the sizes are those of the header's keys.
@@ -33,25 +32,22 @@ fn lay_snapshot(
 }
 
 // A text that is accepted is looked at twice: all of it is checked before a lent place is changed, and then its values are laid.
-pub fn read_held(text: &[u8], header: &mut [i64; 8], ids: &mut [u8], numbers: &mut [i64]) -> Answer
+pub fn read_held(
+    text: &[u8],
+    header: &mut [i64; 8],
+    ids: &mut [u8],
+    numbers: &mut [i64],
+) -> Result<(), Refusal>
     ensures { HeldRead text.now header.old ids.old numbers.old header.new ids.new numbers.new result }
 {
-    let found = read_snapshot(text);
-    match found {
-        Snapshot::Refused(refusal) => return Answer::Refused(refusal),
-        Snapshot::Read {
-            header: read,
-            sums: _,
-        } => {
-            let count = magnitude(read.count) as usize;
-            if held_count(ids, numbers) < count {
-                return Answer::Refused(Refusal {
-                    number: 14,
-                    line: 0,
-                });
-            }
-            lay_snapshot(text, count, header, ids, numbers);
-            return Answer::Accepted;
-        }
+    let snapshot = read_snapshot(text)?;
+    let count = magnitude(snapshot.header.count) as usize;
+    if held_count(ids, numbers) < count {
+        return Err(Refusal {
+            number: 14,
+            line: 0,
+        });
     }
+    lay_snapshot(text, count, header, ids, numbers);
+    Ok(())
 }

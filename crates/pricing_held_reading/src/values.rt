@@ -1,45 +1,25 @@
 // The values of a text that was read already, taken with one look at each byte.
-ghost use Rattle.std.specs.Prelude.{Bool, ◌≡◌, List, ℕ, ◌+◌, ◌≤◌, ◌<◌, length};
+ghost use Rattle.std.specs.Prelude.{Bool, ◌≡◌, List, ℕ, ◌+◌, ◌≤◌, ◌<◌, pos, length};
 ghost use Rattle.text_line.specs.Field.{got, field_at};
-ghost use Rattle.text_number.specs.Marked.{Marked, numbers_of, marks_of};
+ghost use Rattle.text_number.specs.declared.marked.Marked.{Marked};
+ghost use Rattle.text_number.specs.Marked.{numbers_of, marks_of};
 ghost use Rattle.pricing_resource_text.specs.Resource.{kind_field, status_field};
 ghost use Rattle.pricing_held_reading.specs.internal.Laying.{Got, DigitsStand, NumberStands, NumbersStand};
 
-// A word by its place in its list, and where the next line starts.
+use text_number::marked::Marked;
+
+// What was taken from a text, and where the next line starts.
 #[derive(Clone, Copy)]
-pub(crate) struct WordAt {
-    pub index: usize,
+pub(crate) struct Taken<T> {
+    pub value: T,
     pub next: usize,
 }
 
-// The digits of a number by their value, whether a mark stands behind them, and where the next line starts.
-#[derive(Clone, Copy)]
-pub(crate) struct DigitsAt {
-    pub value: u64,
-    pub suspect: bool,
-    pub next: usize,
-}
-
-// A number, whether it is marked suspect, and where the next line starts.
-#[derive(Clone, Copy)]
-pub(crate) struct NumberAt {
-    pub value: i64,
-    pub suspect: bool,
-    pub next: usize,
-}
-
-// The marks of numbers that were laid, 1 for the first number, 2 for the second, 4 for the third, and so on; where the next line starts.
-#[derive(Clone, Copy)]
-pub(crate) struct NumbersLaid {
-    pub marks: u64,
-    pub next: usize,
-}
-
-// The kind whose line starts at a position, known by its first letter, `w`, `i`, `n`, `c` or `g`, and `nclr` by its second. It is a sum of tests, since a
+// The place of the kind whose line starts at a position, known by its first letter, `w`, `i`, `n`, `c` or `g`, and `nclr` by its second. It is a sum of tests, since a
 // processor could not foresee a branch.
-pub(crate) fn kind_at(text: &[u8], at: usize) -> WordAt
+pub(crate) fn kind_at(text: &[u8], at: usize) -> Taken<usize>
     requires { Got (field_at kind_field text.now at) }
-    ensures { field_at kind_field text.now at ≡ got result.index result.next }
+    ensures { field_at kind_field text.now at ≡ got result.value result.next }
 {
     let first = text[at + 5];
     let w = (first == 119) as usize;
@@ -47,17 +27,17 @@ pub(crate) fn kind_at(text: &[u8], at: usize) -> WordAt
     let n = (first == 110) as usize;
     let c = (first == 99) as usize;
     let nc = (text[at + 6] == 99) as usize;
-    WordAt {
-        index: w + 2 * i + 3 * n + 4 * c + 2 * nc,
+    Taken {
+        value: w + 2 * i + 3 * n + 4 * c + 2 * nc,
         next: at + 9 + w + n,
     }
 }
 
-// The status whose line starts at a position and is not the last, known by its second letter; of `ON` and `ONTEST` by the third, of `OFF` and
+// The place of the status whose line starts at a position and is not the last, known by its second letter; of `ON` and `ONTEST` by the third, of `OFF` and
 // `OFFNS` by the fourth.
-pub(crate) fn status_at(text: &[u8], at: usize) -> WordAt
+pub(crate) fn status_at(text: &[u8], at: usize) -> Taken<usize>
     requires { Got (field_at status_field text.now at) × (at + 10 < length text.now) }
-    ensures { field_at status_field text.now at ≡ got result.index result.next }
+    ensures { field_at status_field text.now at ≡ got result.value result.next }
 {
     let second = text[at + 8];
     let on_test = (second == 78) as usize * (text[at + 9] == 84) as usize;
@@ -66,17 +46,18 @@ pub(crate) fn status_at(text: &[u8], at: usize) -> WordAt
     let startup = (second == 84) as usize;
     let shutdown = (second == 72) as usize;
     let out = (second == 85) as usize;
-    WordAt {
-        index: off + off_ns + 3 * on_test + 4 * startup + 5 * shutdown + 6 * out,
+    Taken {
+        value: off + off_ns + 3 * on_test + 4 * startup + 5 * shutdown + 6 * out,
         next: at + 10 + off + 2 * off_ns + 4 * on_test + 5 * startup + 6 * shutdown + out,
     }
 }
 
-// The digits at a position, which end before byte 10, or before a mark and byte 10. The first byte is always a digit, so the loop starts behind it. A mark, byte
-// 63, is taken as one digit more, of worth 15, and taken away again: so the loop asks one thing of each byte.
-fn digits_at(text: &[u8], at: usize) -> DigitsAt
+// The number at a position by its digits, which end before byte 10, or before a mark and byte 10. The first byte is always a digit, so the loop starts behind it. A
+// mark, byte 63, is taken as one digit more, of worth 15, and taken away again: so the loop asks one thing of each byte. A `for` is no plainer here: it would ask
+// each byte as well whether the text ends, and need an answer for that.
+fn digits_at(text: &[u8], at: usize) -> Taken<Marked>
     requires { (n : ℕ) × ((suspect : Bool) × ((next : ℕ) × DigitsStand text.now at n suspect next)) }
-    ensures { (n : ℕ) (suspect : Bool) (next : ℕ) → DigitsStand text.now at n suspect next → result ≡ record { value = n; suspect = suspect; next = next } }
+    ensures { (n : ℕ) (suspect : Bool) (next : ℕ) → DigitsStand text.now at n suspect next → result ≡ record { value = record { number = pos n; suspect = suspect }; next = next } }
 {
     let mut n = text[at] as u64 - 48;
     let mut i: usize = 1;
@@ -85,61 +66,59 @@ fn digits_at(text: &[u8], at: usize) -> DigitsAt
         i += 1;
     }
     if text[at + i - 1] == 63 {
-        return DigitsAt {
-            value: (n - 15) / 10,
-            suspect: true,
+        return Taken {
+            value: Marked {
+                number: ((n - 15) / 10) as i64,
+                suspect: true,
+            },
             next: at + i + 1,
         };
     }
-    DigitsAt {
-        value: n,
-        suspect: false,
+    Taken {
+        value: Marked {
+            number: n as i64,
+            suspect: false,
+        },
         next: at + i + 1,
     }
 }
 
 // The number at a position, which ends before byte 10. Here a branch is taken: a processor goes on before it has seen whether there is a sign.
-pub(crate) fn number_at(text: &[u8], at: usize) -> NumberAt
+pub(crate) fn number_at(text: &[u8], at: usize) -> Taken<Marked>
     requires { (m : Marked) × ((next : ℕ) × NumberStands text.now at m next) }
-    ensures { (m : Marked) (next : ℕ) → NumberStands text.now at m next → result ≡ record { value = m.number; suspect = m.suspect; next = next } }
+    ensures { (m : Marked) (next : ℕ) → NumberStands text.now at m next → result ≡ record { value = m; next = next } }
 {
     if text[at] == 45 {
         let digits = digits_at(text, at + 1);
-        let value = digits.value as i64;
-        return NumberAt {
-            value: -value,
-            suspect: digits.suspect,
+        let Marked { number, suspect } = digits.value;
+        return Taken {
+            value: Marked {
+                number: -number,
+                suspect,
+            },
             next: digits.next,
         };
     }
-    let digits = digits_at(text, at);
-    let value = digits.value as i64;
-    NumberAt {
-        value,
-        suspect: digits.suspect,
-        next: digits.next,
-    }
+    digits_at(text, at)
 }
 
 // Numbers one after the other, each behind a key of so many bytes, laid in their places; their marks, and where the next line starts.
-pub(crate) fn lay_numbers(text: &[u8], at: usize, sizes: &[usize], row: &mut [i64]) -> NumbersLaid
+pub(crate) fn lay_numbers(text: &[u8], at: usize, sizes: &[usize], row: &mut [i64]) -> Taken<u64>
     requires { ((values : List Marked) × ((next : ℕ) × NumbersStand text.now at sizes.now values next)) × (length sizes.now ≡ length row.old) × (length sizes.now ≤ 8) }
-    ensures { (values : List Marked) (next : ℕ) → NumbersStand text.now at sizes.now values next → (result ≡ record { marks = marks_of values; next = next }) × (row.new ≡ numbers_of values) }
+    ensures { (values : List Marked) (next : ℕ) → NumbersStand text.now at sizes.now values next → (result ≡ record { value = marks_of values; next = next }) × (row.new ≡ numbers_of values) }
 {
     let mut next = at;
     let mut marks: u64 = 0;
     let mut mark: u64 = 1;
-    let mut i: usize = 0;
-    while i < sizes.len() {
-        let number = number_at(text, next + sizes[i]);
-        let value = number.value;
-        row[i] = value;
-        if number.suspect {
+    for (i, size) in sizes.iter().enumerate() {
+        let read = number_at(text, next + *size);
+        let Marked { number, suspect } = read.value;
+        row[i] = number;
+        if suspect {
             marks += mark;
         }
         mark *= 2;
-        next = number.next;
-        i += 1;
+        next = read.next;
     }
-    NumbersLaid { marks, next }
+    Taken { value: marks, next }
 }

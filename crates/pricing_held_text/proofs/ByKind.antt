@@ -1,12 +1,9 @@
 -- The lines of a row after its kind, by the kind.
 use Prim.Native.Nat.{ℕ, zero, suc, ◌+◌, ◌≤◌, ◌<◌}
 use native.Mathlib.Omega.{arith}
-use mathlib.Core.Bool.{Bool, cond}
 use mathlib.Core.List.{List, [], ◌∷◌, ◌++◌}
-use mathlib.Core.Path.{◌≡◌, refl, ap, sym, ◌∙◌}
-use borrow.Author.Tests.{lt-ltb, le-ltb}
+use mathlib.Core.Path.{◌≡◌, refl, ap, ◌∙◌}
 use lib.IntN.{ℤ, nat_abs}
-use lib.Dec.{ltb}
 use lib.ListN.{length, take, drop, length-append, length-drop}
 use Rattle.text_refusal.specs.Bytes.{bytes}
 use Rattle.text_number.specs.Marked.{marked_by}
@@ -14,9 +11,8 @@ use Rattle.text_word.specs.Word.{written_word}
 use Rattle.text_schema.specs.Schema.{value, keys_of}
 use Rattle.text_schema.specs.Checked.{checked_line, checked_lines, text_of}
 use Rattle.text_schema.proofs.Checked.{text_first}
-use Rattle.text_writer.specs.Write.{written_numbers, written_marked_lines}
+use Rattle.text_writer.specs.Write.{written_marked_lines}
 use Rattle.text_writer.proofs.Writing.{text_line_length}
-use Rattle.text_writer.proofs.MarkedLines.{lines_unmarked}
 use Rattle.pricing_resource_text.specs.Resource.{status_words, status_field, generator_fields, load_fields}
 use Rattle.pricing_resource_text.proofs.Places.{generator_widths, controllable_widths, load_widths}
 use Rattle.pricing_held.specs.Rows.{Row, place_of, marked_numbers}
@@ -24,7 +20,6 @@ use Rattle.pricing_held.specs.Lines.{lines_of_kind}
 use Rattle.pricing_held.specs.internal.Checks.{row_of}
 use Rattle.pricing_held.proofs.RowLines.{of_generator}
 use Rattle.text_writer.specs.internal.Counted.{number_bytes, mark_bytes}
-use Rattle.pricing_held_text.specs.internal.RowText.{marks_of_kind}
 use Rattle.text_writer.proofs.Counted.{KeyBytes, key_bytes_lem, marked_lines_bytes, first_marked_lines}
 
 -- ---- which lines
@@ -63,20 +58,6 @@ numbers_text keys count values = written_marked_lines (keys_of keys) (marked_by 
 -- the same, as they are handed over
 pub numbers_marked : (keys : List ℕ) (count : ℕ) (values : List ℤ) {marks : ℕ} → marks ≡ row_marks values → written_marked_lines (keys_of keys) (marked_by marks (take count (drop 2 values))) ≡ numbers_text keys count values
 numbers_marked keys count values is = rw is
-
-pub numbers_unmarked : (keys : List ℕ) (count : ℕ) (values : List ℤ) → row_marks values ≡ 0 → written_numbers (keys_of keys) (take count (drop 2 values)) ≡ numbers_text keys count values
-numbers_unmarked keys count values none = rw none (sym (lines_unmarked (keys_of keys) (take count (drop 2 values))))
-
--- how many numbers may be marked
-module _ (kind : ℕ) (values : List ℤ) where
-  marks_of : {is_generator : Bool} → ltb kind 4 ≡ is_generator → marks_of_kind kind values ≡ mark_bytes (cond is_generator 6 4) (row_marks values)
-  marks_of is = rw is
-
-  pub generator_marks : kind < 4 → marks_of_kind kind values ≡ mark_bytes 6 (row_marks values)
-  generator_marks h = marks_of (lt-ltb kind 4 h)
-
-  pub load_marks : 4 ≤ kind → marks_of_kind kind values ≡ mark_bytes 4 (row_marks values)
-  load_marks h = marks_of (le-ltb kind 4 h)
 
 module _ (kind : ℕ) (values : List ℤ) where
   abbrev text : List ℕ

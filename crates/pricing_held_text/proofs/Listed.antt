@@ -1,32 +1,33 @@
--- Words by their place in a list: a number that a `match` on the places leaves over, and how many bytes a word has at most.
-use Prim.Native.Nat.{ℕ, zero, suc, ◌≤◌}
+-- Words by their place in a list, and how many bytes a word has at most.
+use Prim.Native.Nat.{ℕ, zero, suc, ◌≤◌, ◌<◌}
 use native.Mathlib.Omega.{arith}
+use denote.Bor.{Bor}
 use mathlib.Core.Bool.{Bool, true, ◌&&◌}
-use mathlib.Core.List.{List, [], ◌∷◌}
-use mathlib.Core.Path.{◌≡◌, ◌∙◌}
+use mathlib.Core.List.{List, [], ◌∷◌, map}
+use mathlib.Core.Path.{◌≡◌, refl, sym, ap, ◌∙◌}
 use borrow.Author.Tests.{leb-true}
 use lib.Dec.{leb}
-use lib.IntN.{ℤ, nat_abs}
-use lib.ListN.{length}
-use mir.Facts.{to_z-of_z}
-use mir.Syntax.{w64}
-use mir.Val.{SFits, to_z, of_z}
+use lib.ListN.{length, get_or, length-map}
 use Rattle.text_refusal.proofs.Choices.{and_left, and_right}
 use Rattle.text_word.specs.Word.{written_word}
-use Rattle.text_word.proofs.Words.{listed_word, written_listed}
-use Rattle.pricing_held.specs.Rows.{place_of}
+use Rattle.text_word.proofs.Words.{listed_word, written_listed, word_past}
+use Rattle.pricing_resource_text.specs.Resource.{kind_words, status_words}
 
--- as the last way through a `match` on the numbers below one knows it
-abbrev pub NoneBelow : ℕ → ℕ → Type 0
-NoneBelow zero n = Unit
-NoneBelow (suc k) n = NoneBelow k n × (n ≡ k → ⊥)
+-- ---- a word by its place in a list that is lent
 
-pub none_below : (k n : ℕ) → NoneBelow k n → k ≤ n
-none_below zero n none = omega arith
-none_below (suc k) n none =
-    let least = none_below k n none.0 in
-    let other = none.1 in
-    omega arith
+module _ (words : List (Bor (List ℕ))) (place : ℕ) where
+  pub word_here : (other : Bor (List ℕ)) {word : Bor (List ℕ)} → place < length words → word ≡ get_or words place other → word.now ≡ written_word (map (λ (w : Bor (List ℕ)). w.now) words) place
+  word_here other within is = ap (λ (w : Bor (List ℕ)). w.now) is ∙ go words place within ∙ sym (written_listed (map (λ (w : Bor (List ℕ)). w.now) words) place)
+    where
+      go : (words : List (Bor (List ℕ))) (place : ℕ) → place < length words → (get_or words place other).now ≡ listed_word (map (λ (w : Bor (List ℕ)). w.now) words) place
+      go [] place h = absurd (omega arith)
+      go (known ∷ words) zero h = refl
+      go (known ∷ words) (suc place) h = go words place (omega arith)
+
+  pub word_none : length words ≤ place → ◌≡◌ {A = List ℕ} [] (written_word (map (λ (w : Bor (List ℕ)). w.now) words) place)
+  word_none past = sym (word_past (map (λ (w : Bor (List ℕ)). w.now) words) place (simp length-map past))
+
+-- ---- how long it is
 
 -- for words that are written out, the argument is refl
 abbrev pub all_within : ℕ → List (List ℕ) → Bool
@@ -41,10 +42,8 @@ word_short most words all index = rw (written_listed words index) (go words inde
     go (known ∷ words) zero all = leb-true (length known) most (and_left (leb (length known) most) (all_within most words) all)
     go (known ∷ words) (suc index) all = go words index (and_right (leb (length known) most) (all_within most words) all)
 
--- the place that a number of a row says, as the machine reads it
-pub place_is : (z : ℤ) {place : ℕ} → SFits w64 z → place ≡ place_of (to_z w64 (of_z w64 z)) → place ≡ place_of z
-place_is z fits is = is ∙ rw (to_z-of_z fits)
+pub kind_short : (place : ℕ) → length (written_word kind_words place) ≤ 4
+kind_short place = word_short 4 kind_words refl place
 
--- and its marks
-pub marks_are : (z : ℤ) {marks : ℕ} → SFits w64 z → marks ≡ nat_abs (to_z w64 (of_z w64 z)) → marks ≡ nat_abs z
-marks_are z fits is = is ∙ rw (to_z-of_z fits)
+pub status_short : (place : ℕ) → length (written_word status_words place) ≤ 8
+status_short place = word_short 8 status_words refl place

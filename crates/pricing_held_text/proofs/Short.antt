@@ -5,8 +5,8 @@ use mathlib.Core.List.{List, [], ◌∷◌, ◌++◌}
 use mathlib.Core.Path.{◌≡◌, refl, sym, ap, ◌∙◌}
 use lib.IntN.{ℤ}
 use lib.ListN.{length, length-append}
+use Rattle.std.specs.Prelude.{Ok}
 use Rattle.text_refusal.specs.Bytes.{bytes}
-use Rattle.text_refusal.specs.declared.answer.Answer.TheVariants as answer
 use Rattle.text_word.specs.Word.{written_word}
 use Rattle.text_schema.specs.Checked.{checked_line, checked_lines, text_of, first_refused}
 use Rattle.text_schema.proofs.Checked.{Unrefused, accepted_unrefused, text_none, text_first, text_append, unrefused_both, wide_text}
@@ -82,7 +82,7 @@ rows_short ids numbers i (suc n) above all =
       rows_short ids numbers (suc i) n (row.id ∷ above) both.1,
     )
 
-pub held_text_short : (header : List ℤ) (ids : List ℕ) (numbers : List ℤ) → held_answer header ids numbers ≡ answer.Accepted → length (held_text header ids numbers) ≤ 516198
+pub held_text_short : (header : List ℤ) (ids : List ℕ) (numbers : List ℤ) → held_answer header ids numbers ≡ Ok tt → length (held_text header ids numbers) ≤ 516198
 held_text_short header ids numbers accepted =
     let h = header_held header (held_count ids numbers) in
     let rows = rows_lines [] (held_rows ids numbers) in

@@ -70,6 +70,7 @@ fn unmarked_before(marks: u64) -> usize
 }
 
 // Which of a resource's lines holds its first marked number, where that turns the snapshot back; 0 where it does not.
+// 0 and no Option: the definitions `suspect_place` and `suspect_line` have it, and the promise `SnapshotIsRefusedFirst` speaks of a line that is 0.
 pub fn suspect_place(resource: Resource) -> usize
     ensures { result ≡ suspect_place resource }
 {

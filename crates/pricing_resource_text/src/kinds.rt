@@ -3,7 +3,7 @@ ghost use Rattle.std.specs.Prelude.{◌≡◌};
 ghost use Rattle.pricing_resource_text.specs.Resource.{generator_of, controllable_of, load_of, with_marks, generator_fields, controllable_fields, load_fields, generator_at, lines_as, lines_answer};
 
 use crate::ResourceLines;
-use crate::made::{controllable_of, generator_of, load_of, status_of};
+use crate::made::{controllable_of, generator_of, load_of, narrowed, status_of};
 use crate::marks::number_lines;
 use crate::words::status_word;
 use pricing_resource::{Kind, Status};
@@ -30,7 +30,7 @@ fn generator_lines(
     let keys = b"net=lsl=hsl=base=nonspin=cold30=";
     let read = number_lines(text, at, keys, &GENERATOR_LOWS, &GENERATOR_HIGHS, 5, &mut v)?;
     Ok(ResourceLines {
-        resource: generator_of(kind, status, read.marks, &v),
+        resource: generator_of(kind, status, read.marks, narrowed(v)),
         next: read.next,
     })
 }
@@ -61,7 +61,7 @@ pub(crate) fn controllable_at(text: &[u8], at: usize) -> Result<ResourceLines, F
         &mut v,
     )?;
     Ok(ResourceLines {
-        resource: controllable_of(read.marks, &v),
+        resource: controllable_of(read.marks, narrowed(v)),
         next: read.next,
     })
 }
@@ -81,7 +81,7 @@ pub(crate) fn load_at(text: &[u8], at: usize) -> Result<ResourceLines, Fault>
         &mut v,
     )?;
     Ok(ResourceLines {
-        resource: load_of(read.marks, &v),
+        resource: load_of(read.marks, narrowed(v)),
         next: read.next,
     })
 }

@@ -5,12 +5,16 @@ ghost use Rattle.pricing_resource_text.specs.Resource.{status_of, generator_of, 
 
 use pricing_resource::{Controllable, Generator, Kind, Load, Resource, Status};
 
-// One of the numbers read, in half the width.
-fn number(z: i64) -> i32
-    requires { nat_abs z ≤ 2000000 }
-    ensures { result ≡ z }
+// The numbers read, in half the width.
+pub(crate) fn narrowed<const N: usize>(v: [i64; N]) -> [i32; N]
+    requires { (place : ℕ) → nat_abs (value v place) ≤ 2000000 }
+    ensures { result ≡ v.entry }
 {
-    z as i32
+    let mut out = [0i32; N];
+    for i in 0..N {
+        out[i] = v[i] as i32;
+    }
+    out
 }
 
 // A status by its place in the list of words.
@@ -29,45 +33,45 @@ pub fn status_of(index: usize) -> Status
 }
 
 // A resource of each kind by its values.
-pub(crate) fn generator_of(kind: Kind, status: Status, marks: u64, v: &[i64; 6]) -> Resource
-    requires { (place : ℕ) → nat_abs (value v.now place) ≤ 2000000 }
-    ensures { result ≡ generator_of kind status marks v.now }
+pub(crate) fn generator_of(kind: Kind, status: Status, marks: u64, v: [i32; 6]) -> Resource
+    ensures { result ≡ generator_of kind status marks v }
 {
+    let [net, lsl, hsl, base, nonspin, cold30] = v;
     Resource::Generator(Generator {
         kind,
         status,
-        net: number(v[0]),
-        lsl: number(v[1]),
-        hsl: number(v[2]),
-        base: number(v[3]),
-        nonspin: number(v[4]),
-        cold30: number(v[5]),
+        net,
+        lsl,
+        hsl,
+        base,
+        nonspin,
+        cold30,
         marks,
     })
 }
 
-pub(crate) fn controllable_of(marks: u64, v: &[i64; 4]) -> Resource
-    requires { (place : ℕ) → nat_abs (value v.now place) ≤ 2000000 }
-    ensures { result ≡ controllable_of marks v.now }
+pub(crate) fn controllable_of(marks: u64, v: [i32; 4]) -> Resource
+    ensures { result ≡ controllable_of marks v }
 {
+    let [base, lpc, nonspin, regup] = v;
     Resource::Controllable(Controllable {
-        base: number(v[0]),
-        lpc: number(v[1]),
-        nonspin: number(v[2]),
-        regup: number(v[3]),
+        base,
+        lpc,
+        nonspin,
+        regup,
         marks,
     })
 }
 
-pub(crate) fn load_of(marks: u64, v: &[i64; 4]) -> Resource
-    requires { (place : ℕ) → nat_abs (value v.now place) ≤ 2000000 }
-    ensures { result ≡ load_of marks v.now }
+pub(crate) fn load_of(marks: u64, v: [i32; 4]) -> Resource
+    ensures { result ≡ load_of marks v }
 {
+    let [rrsok, net, lpc, rrs] = v;
     Resource::Load(Load {
-        rrsok: number(v[0]),
-        net: number(v[1]),
-        lpc: number(v[2]),
-        rrs: number(v[3]),
+        rrsok,
+        net,
+        lpc,
+        rrs,
         marks,
     })
 }

@@ -24,7 +24,7 @@ fn word_of(value: &[u8], words: &[&[u8]]) -> Option<usize>
     words.iter().position(|word| is_word(value, word))
 }
 
-// Which kind a value is: its place in the list is also the number by which hosts name it.
+// Which kind a value is. A place in the list, and no enum: `of_kind` and `status_of` of the definitions go by it, and hosts name kinds and statuses by it.
 pub(crate) fn kind_word(value: &[u8]) -> Option<usize>
     ensures { result ≡ word_in kind_words value.now }
 {

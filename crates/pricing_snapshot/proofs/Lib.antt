@@ -8,4 +8,3 @@ pub mod Snapshots
 pub mod HeaderLines
 pub mod Entries
 pub mod SuspectLine
-pub mod MapErr

@@ -12,8 +12,8 @@ use crate::ids::new_id;
 use pricing_resource::Resource;
 use pricing_resource::suspect::{resource_line_count, suspect_place};
 use pricing_resource_text::resource_at;
-use pricing_sums::Sums;
 use pricing_sums::part::part_of;
+use pricing_sums::{NO_SUMS, Sums};
 use text_refusal::refusal::Fault;
 
 // The sums of the resources, how many lines the text has up to there, and the first line that a mark turns back, where there is one.
@@ -88,13 +88,7 @@ pub(crate) fn resources_at(
     ensures { resources_answer result ≡ tallied no_tally (resources_at resource_at count [] text.now at) }
 {
     let mut tally = Tally {
-        sums: Sums {
-            generation: 0,
-            controllable: 0,
-            offline: 0,
-            validated: 0,
-            responsive: 0,
-        },
+        sums: NO_SUMS,
         lines: 8,
         suspect: None,
     };

@@ -14,8 +14,7 @@ use Rattle.curve_hour.proofs.HourCases.{hour_too_long_lem}
 use Rattle.curve_record.specs.Possible.{record_possible}
 use Rattle.curve_booking.specs.Booking.{booked}
 use Rattle.curve_booking.proofs.Booked.{booked_impossible, booked_refused}
-use Rattle.text_refusal.specs.declared.answer.Answer.{Answer}
-use Rattle.text_refusal.specs.declared.answer.Answer.TheVariants as answer
+use Rattle.std.specs.Prelude.{Result, Ok, Err}
 use Rattle.curve_record.specs.declared.Record.{Record}
 use Rattle.text_writer.specs.Output.{refusal_lines}
 use Rattle.program_curves.specs.Program.{ends_hour, hours_from, hours_booked}
@@ -27,11 +26,10 @@ use Rattle.program_curves.proofs.Taking.{hour_refused}
 abbrev too_long : Record → Refusal
 too_long history = record { number = cond (record_possible history) 2 1; line = 0 }
 
-booked_too_long : (history : Record) (text : List ℕ) → 65536 < length text →
-    booked history text ≡ record { history = history; answer = answer.Refused (too_long history) }
+booked_too_long : (history : Record) (text : List ℕ) → 65536 < length text → booked history text ≡ Err (too_long history)
 booked_too_long history text long = go (record_possible history) refl
   where
-    go : (b : Bool) → record_possible history ≡ b → booked history text ≡ record { history = history; answer = answer.Refused (record { number = cond (record_possible history) 2 1; line = 0 }) }
+    go : (b : Bool) → record_possible history ≡ b → booked history text ≡ Err (record { number = cond (record_possible history) 2 1; line = 0 })
     go true e = rw e (booked_refused history text e (record { number = 2; line = 0 }) (hour_too_long_lem text long))
     go false e = rw e (booked_impossible history text e)
 
@@ -64,22 +62,22 @@ module _ (voll floor : ℤ) where
   unfolding fed fed_all finished hours_booked hours_from
   hours_taken history held [] small = refl
   hours_taken history held (byte ∷ rest) small =
-      go (ends_hour held byte) (booked history held).answer refl (leb 65536 (length held)) refl
-      (hours_taken (booked history held).history [] rest (omega arith)) (hours_taken history (held ++ (byte ∷ [])) rest)
+      go (ends_hour held byte) (booked history held) refl (leb 65536 (length held)) refl
+      (λ changed. hours_taken changed [] rest (omega arith)) (hours_taken history (held ++ (byte ∷ [])) rest)
     where
       go :
-          (end : Bool) (found : Answer) → (booked history held).answer ≡ found → (full : Bool) → leb 65536 (length held) ≡ full →
-          finished (fed_all (hours (booked history held).history []) rest) ≡ hours_booked voll floor (booked history held).history (hours_from [] rest) →
+          (end : Bool) (booking : Result Record Refusal) → booked history held ≡ booking → (full : Bool) → leb 65536 (length held) ≡ full →
+          ((changed : Record) → finished (fed_all (hours changed []) rest) ≡ hours_booked voll floor changed (hours_from [] rest)) →
           (length (held ++ (byte ∷ [])) ≤ 65536 →
           finished (fed_all (hours history (held ++ (byte ∷ []))) rest) ≡ hours_booked voll floor history (hours_from (held ++ (byte ∷ [])) rest)) →
           finished
           (fed_all
           (cond end
-          (hour_taken (hours history held) (booked history held).history (booked history held).answer)
+          (hour_taken (hours history held) (booked history held))
           (cond full (hour_too_long (hours history held)) (hours history (held ++ (byte ∷ [])))))
           rest)
           ≡ hours_booked voll floor history (cond end (held ∷ hours_from [] rest) (hours_from (held ++ (byte ∷ [])) rest))
-      go true answer.Accepted a full f booked_on one_more = rw a booked_on
-      go true (answer.Refused found) a full f booked_on one_more = rw (a, hour_refused)
-      go false found a true f booked_on one_more = rw hour_refused (sym (hours_too_long history (held ++ (byte ∷ [])) rest (rw length-append (omega (arith, leb-true 65536 (length held) f)))))
-      go false found a false f booked_on one_more = one_more (rw length-append (omega (arith, leb-false 65536 (length held) f)))
+      go true (Ok changed) a full f booked_on one_more = rw a (booked_on changed)
+      go true (Err found) a full f booked_on one_more = rw (a, hour_refused)
+      go false booking a true f booked_on one_more = rw hour_refused (sym (hours_too_long history (held ++ (byte ∷ [])) rest (rw length-append (omega (arith, leb-true 65536 (length held) f)))))
+      go false booking a false f booked_on one_more = one_more (rw length-append (omega (arith, leb-false 65536 (length held) f)))

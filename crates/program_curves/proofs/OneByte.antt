@@ -11,8 +11,8 @@ use lib.ListN.{length, take, set, length-append}
 use lib.Seq.{length-take-le, set_out, take-suc-set}
 use Rattle.text_line.specs.Field.{Field, LineAnswer, got, refused, field_at}
 use Rattle.curve_booking.specs.Booking.{booked}
-use Rattle.text_refusal.specs.declared.answer.Answer as declared-answer
-use Rattle.text_refusal.specs.declared.answer.Answer.TheVariants as answer
+use Rattle.std.specs.Prelude.{Result, Ok, Err}
+use Rattle.text_refusal.specs.declared.refusal.Refusal.{Refusal}
 use Rattle.curve_record.specs.declared.Record.{Record}
 use Rattle.curve_text.specs.CurveText.{voll_field, floor_field}
 use Rattle.program_curves.specs.Program.{ends_hour}
@@ -57,14 +57,13 @@ hour_fed : (s : State) (byte : ℕ) → s.stage ≡ stage.Hours → fed s byte �
 unfolding fed
 hour_fed s byte e = rw e
 
-hour_same : (stream : Stream) (buffer : List ℕ) (history : Record) (found : declared-answer.Answer) →
-    hour_taken (state_of stream buffer) history found ≡ hour_taken (state_of stream []) history found
-hour_same stream buffer history answer.Accepted = refl
-hour_same stream buffer history (answer.Refused found) = refl
+hour_same : (stream : Stream) (buffer : List ℕ) (booking : Result Record Refusal) → hour_taken (state_of stream buffer) booking ≡ hour_taken (state_of stream []) booking
+hour_same stream buffer (Ok history) = refl
+hour_same stream buffer (Err found) = refl
 
-hour_empties : (s : State) (history : Record) (found : declared-answer.Answer) → (hour_taken s history found).held ≡ []
-hour_empties s history answer.Accepted = refl
-hour_empties s history (answer.Refused found) = refl
+hour_empties : (s : State) (booking : Result Record Refusal) → (hour_taken s booking).held ≡ []
+hour_empties s (Ok history) = refl
+hour_empties s (Err found) = refl
 
 given_up : (at : Stage) (voll floor : ℤ) (history : Record) (held after : List ℕ) → held ≡ [] →
     let to : State = record { stage = at; voll = voll; floor = floor; history = history; held = held } in
@@ -136,13 +135,13 @@ module _ (stream : Stream) (buffer : List ℕ) (byte : ℕ) where
     module _ (here : stream.stage ≡ stage.Hours) where
       pub hour_end : (r : Stream) → ends_hour (take stream.held buffer) byte ≡ true →
           let booking = booked stream.history (take stream.held buffer) in
-          r ≡ stream_of (hour_taken (state_of stream []) booking.history booking.answer) → Fed stream buffer (byte ∷ []) r buffer
+          r ≡ stream_of (hour_taken (state_of stream []) booking) → Fed stream buffer (byte ∷ []) r buffer
       hour_end r ends is =
           let booking = booked stream.history (take stream.held buffer) in
-          emptied buffer r (hour_taken (state_of stream []) booking.history booking.answer)
-          (hour_fed (state_of stream buffer) byte here ∙ rw ends (hour_same stream buffer booking.history booking.answer))
+          emptied buffer r (hour_taken (state_of stream []) booking)
+          (hour_fed (state_of stream buffer) byte here ∙ rw ends (hour_same stream buffer booking))
           (rw (here, ends))
-          (hour_empties (state_of stream []) booking.history booking.answer) is
+          (hour_empties (state_of stream []) booking) is
 
       pub hour_full : (r : Stream) → ends_hour (take stream.held buffer) byte ≡ false → stream.held ≡ 65536 →
           r ≡ stream_of (hour_too_long (state_of stream [])) → Fed stream buffer (byte ∷ []) r buffer

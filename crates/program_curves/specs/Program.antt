@@ -1,14 +1,13 @@
 -- Document 01, "Programs": `curves` reads a `voll` line, a `floor` line, then hours, each followed by an empty line that is no part of it; it prints the curve
 -- text. The first refusal ends the program, and nothing else is printed.
-use Rattle.std.specs.Prelude.{ℕ, Bool, true, ◌&&◌, cond, List, [], ◌∷◌, ◌++◌, eqb, ℤ, take, drop}
+use Rattle.std.specs.Prelude.{ℕ, Bool, true, ◌&&◌, cond, List, [], ◌∷◌, ◌++◌, eqb, ℤ, take, drop, Result, Ok, Err}
 use Rattle.text_refusal.specs.Bytes.{bytes}
 use Rattle.text_line.specs.Field.{Field, LineAnswer, got, refused, field_at}
 use Rattle.curve_record.specs.Record.{fresh}
 use Rattle.curve_booking.specs.Booking.{booked}
 use Rattle.curve_settling.specs.Settle.{settled}
 use Rattle.curve_text.specs.CurveText.{voll_field, floor_field, curve_text}
-use Rattle.text_refusal.specs.declared.answer.Answer as declared-answer
-use Rattle.text_refusal.specs.declared.answer.Answer.TheVariants as answer
+use Rattle.text_refusal.specs.declared.refusal.Refusal.{Refusal}
 use Rattle.curve_record.specs.declared.Record.{Record}
 use Rattle.curve_set.specs.declared.CurveSet.{CurveSet}
 use Rattle.text_writer.specs.Output.{refusal_lines}
@@ -42,22 +41,21 @@ hours_from hour (byte ∷ rest) = cond (ends_hour hour byte) (hour ∷ hours_fro
 abbrev pub settle_refused : ℕ → ℕ → List ℕ
 settle_refused number line = refusal_lines (record { number = number; line = line }) (bytes "settle")
 
-abbrev pub printed_curves : CurveSet → declared-answer.Answer → List ℕ
-printed_curves curves answer.Accepted = curve_text curves
-printed_curves curves (answer.Refused found) = refusal_lines found (bytes "settle")
+abbrev pub printed_curves : Result CurveSet Refusal → List ℕ
+printed_curves (Ok curves) = curve_text curves
+printed_curves (Err found) = refusal_lines found (bytes "settle")
 
 abbrev pub settled_text : ℤ → ℤ → Record → List ℕ
-settled_text voll floor history = printed_curves (settled history voll floor).set (settled history voll floor).answer
+settled_text voll floor history = printed_curves (settled history voll floor)
 
-abbrev pub after_hour : Record → declared-answer.Answer → (Record → List ℕ) → List ℕ
-after_hour history answer.Accepted more = more history
-after_hour history (answer.Refused found) more = refusal_lines found (bytes "hour")
+abbrev pub after_hour : Result Record Refusal → (Record → List ℕ) → List ℕ
+after_hour (Ok history) more = more history
+after_hour (Err found) more = refusal_lines found (bytes "hour")
 
 -- the hours booked in order, then settled
 unfoldable pub hours_booked : ℤ → ℤ → Record → List (List ℕ) → List ℕ
 hours_booked voll floor history [] = settled_text voll floor history
-hours_booked voll floor history (hour ∷ hours) =
-    after_hour (booked history hour).history (booked history hour).answer (λ changed. hours_booked voll floor changed hours)
+hours_booked voll floor history (hour ∷ hours) = after_hour (booked history hour) (λ changed. hours_booked voll floor changed hours)
 
 abbrev pub after_floor : ℤ → List ℕ → LineAnswer ℤ → List ℕ
 after_floor voll rest (refused found) = settle_refused found.number 2

@@ -1,5 +1,5 @@
 -- The input taken byte by byte: what a byte does to the stream and to the bytes it holds.
-use Rattle.std.specs.Prelude.{ℕ, Bool, true, false, not, cond, ◌≡◌, List, [], ◌∷◌, ◌++◌, eqb, leb, ℤ, pos, length, take, set}
+use Rattle.std.specs.Prelude.{ℕ, Bool, true, false, not, cond, ◌≡◌, List, [], ◌∷◌, ◌++◌, eqb, leb, ℤ, pos, length, take, set, Result, Ok, Err}
 use Rattle.text_refusal.specs.Bytes.{bytes}
 use Rattle.text_line.specs.Field.{Field, LineAnswer, got, refused, field_at}
 use Rattle.text_schema.specs.Schema.{laid_over}
@@ -8,8 +8,6 @@ use Rattle.curve_record.specs.Record.{fresh}
 use Rattle.curve_record.specs.Possible.{record_possible}
 use Rattle.curve_text.specs.CurveText.{voll_field, floor_field}
 use Rattle.curve_booking.specs.Booking.{booked}
-use Rattle.text_refusal.specs.declared.answer.Answer as declared-answer
-use Rattle.text_refusal.specs.declared.answer.Answer.TheVariants as answer
 use Rattle.curve_record.specs.declared.Record.{Record}
 use Rattle.text_writer.specs.Output.{refusal_lines}
 use Rattle.program_curves.specs.Program.{ends_hour, last_hour, settle_refused, hours_booked}
@@ -58,10 +56,9 @@ floor_taken s (refused found) = refused_settle s found.number 2
 floor_taken s (got floor next) = record { stage = stage.Hours; voll = s.voll; floor = floor; history = s.history; held = [] }
 
 -- a whole hour
-abbrev pub hour_taken : State → Record → declared-answer.Answer → State
-hour_taken s history answer.Accepted =
-    record { stage = stage.Hours; voll = s.voll; floor = s.floor; history = history; held = [] }
-hour_taken s history (answer.Refused found) = refused_hour s found
+abbrev pub hour_taken : State → Result Record Refusal → State
+hour_taken s (Ok history) = record { stage = stage.Hours; voll = s.voll; floor = s.floor; history = history; held = [] }
+hour_taken s (Err found) = refused_hour s found
 
 -- an hour of more than 65536 bytes: 1, then 2
 abbrev pub hour_too_long : State → State
@@ -80,7 +77,7 @@ line_byte taken field line s byte =
 abbrev pub hour_byte : State → ℕ → State
 hour_byte s byte =
     cond (ends_hour s.held byte)
-    (hour_taken s (booked s.history s.held).history (booked s.history s.held).answer)
+    (hour_taken s (booked s.history s.held))
     (cond (leb 65536 (length s.held))
     (hour_too_long s)
     (at_stage s s.stage (s.held ++ (byte ∷ []))))

@@ -5,14 +5,12 @@ ghost use Rattle.program_curves.specs.Program.{last_hour, after_hour, settle_ref
 ghost use Rattle.program_curves.specs.Stream.{state_of, finished, Printed};
 
 use crate::{Stage, Stream};
-use curve_booking::{Booking, book};
+use curve_booking::book;
 use curve_record::Record;
 use curve_settling::settle;
-use curve_text::{WrittenCurves, write_curves};
+use curve_text::write_curves;
 use text_line::piece::part;
-use text_refusal::answer::Answer;
 use text_refusal::refusal::Refusal;
-use text_writer::Written;
 use text_writer::output::write_refusal;
 
 // The lines of a refusal, with the name of the refused text.
@@ -21,11 +19,8 @@ fn print_refusal(found: Refusal, name: &[u8], out: &mut [u8]) -> usize
     requires name_len_bound { length name.now ≤ 6 }
     ensures { Printed (refusal_lines found name.now) out.old out.new result }
 {
-    let w = write_refusal(out, found, name);
-    let Written::Ended { next } = w else {
-        return 0;
-    };
-    next
+    // The buffer is never too short.
+    write_refusal(out, found, name).unwrap_or(0)
 }
 
 // The curve text of a record, or the refusal of settling it.
@@ -33,29 +28,19 @@ fn print_curves(history: Record, voll: i64, floor: i64, out: &mut [u8]) -> usize
     requires { length out.old ≡ 768 }
     ensures { Printed (settled_text voll floor history) out.old out.new result }
 {
-    let curves = settle(history, voll, floor);
-    let answer = curves.answer;
-    match answer {
-        Answer::Refused(found) => return print_refusal(found, b"settle", out),
-        Answer::Accepted => {
-            let w = write_curves(curves.set, out);
-            let WrittenCurves::Length(next) = w else {
-                return 0;
-            };
-            return next;
-        }
+    match settle(history, voll, floor) {
+        // Settled curves are in range, and the buffer is never too short.
+        Ok(curves) => write_curves(curves, out).unwrap_or(0),
+        Err(found) => print_refusal(found, b"settle", out),
     }
 }
 
 // The record with the last hour booked, where that has a byte.
-fn last_booked(history: Record, hour: &[u8]) -> Booking
-    ensures { (voll floor : ℤ) → hours_booked voll floor history (last_hour hour.now) ≡ after_hour result.history result.answer (settled_text voll floor) }
+fn last_booked(history: Record, hour: &[u8]) -> Result<Record, Refusal>
+    ensures { (voll floor : ℤ) → hours_booked voll floor history (last_hour hour.now) ≡ after_hour result (settled_text voll floor) }
 {
-    if hour.len() == 0 {
-        return Booking {
-            history,
-            answer: Answer::Accepted,
-        };
+    if hour.is_empty() {
+        return Ok(history);
     }
     book(history, hour)
 }
@@ -65,13 +50,9 @@ fn print_hours(stream: Stream, hour: &[u8], out: &mut [u8]) -> usize
     requires { length out.old ≡ 768 }
     ensures { Printed (hours_booked stream.voll stream.floor stream.history (last_hour hour.now)) out.old out.new result }
 {
-    let booking = last_booked(stream.history, hour);
-    let answer = booking.answer;
-    match answer {
-        Answer::Refused(found) => return print_refusal(found, b"hour", out),
-        Answer::Accepted => {
-            return print_curves(booking.history, stream.voll, stream.floor, out);
-        }
+    match last_booked(stream.history, hour) {
+        Ok(history) => print_curves(history, stream.voll, stream.floor, out),
+        Err(found) => print_refusal(found, b"hour", out),
     }
 }
 

@@ -2,8 +2,9 @@
 ghost use Rattle.std.specs.Prelude.{[], ◌≡◌, ◌≤◌};
 ghost use Rattle.curve_text.specs.CurveText.{voll_field, floor_field};
 ghost use Rattle.program_curves.specs.Stream.{state_of, stream_of, refused_settle, voll_taken, floor_taken, hour_taken, hour_too_long};
-ghost use Rattle.program_curves.specs.internal.Feeding.{line_of, field_of, taken_at};
+ghost use Rattle.program_curves.specs.internal.Feeding.{line_of, line_value, field_of, taken_at};
 ghost use Rattle.text_line.specs.Field.{field_at};
+ghost use Rattle.text_number.specs.Field.{number_field};
 ghost use Rattle.curve_booking.specs.Booking.{booked};
 
 use crate::{Stage, Stream};
@@ -12,8 +13,7 @@ use curve_record::Record;
 use curve_record::possible::record_possible;
 use curve_set::{GREATEST_FLOOR, GREATEST_VOLL, LEAST_FLOOR, LEAST_VOLL};
 use text_line::line::{line_value, value_fault};
-use text_number::{Number, number_of, number_refusal};
-use text_refusal::answer::Answer;
+use text_number::{number_of, number_refusal};
 use text_refusal::refusal::Refusal;
 
 // The stream at another stage, with a record, and with no bytes held.
@@ -36,32 +36,46 @@ fn line_refused(stream: Stream, number: u64, line: usize) -> Stream
     at_stage(stream, Stage::RefusedSettle(found), stream.history)
 }
 
+// The number of a line at the start of a text, or the number of the line's refusal.
+fn line_number(text: &[u8], key: &[u8], low: i64, high: i64) -> Result<i64, u64>
+    ensures { result ≡ line_value (field_at (number_field key.now low high) text.now 0) }
+{
+    let value = line_value(text, 0, key);
+    let n = number_of(value, low, high);
+    if let Ok(number) = n {
+        return Ok(number);
+    }
+    Err(value_fault(text, 0, key, number_refusal(n)).number)
+}
+
 // The stream after a whole `voll` line.
-fn voll_taken(mut stream: Stream, text: &[u8]) -> Stream
+fn voll_taken(stream: Stream, text: &[u8]) -> Stream
     ensures { result ≡ stream_of (voll_taken (state_of stream []) (field_at voll_field text.now 0)) }
 {
-    let value = line_value(text, 0, b"voll=");
-    let n = number_of(value, LEAST_VOLL, GREATEST_VOLL);
-    let Number::Value(voll) = n else {
-        let fault = value_fault(text, 0, b"voll=", number_refusal(n));
-        return line_refused(stream, fault.number, 1);
-    };
-    stream.voll = voll;
-    at_stage(stream, Stage::Floor, stream.history)
+    match line_number(text, b"voll=", LEAST_VOLL, GREATEST_VOLL) {
+        Ok(voll) => Stream {
+            stage: Stage::Floor,
+            voll,
+            held: 0,
+            ..stream
+        },
+        Err(number) => line_refused(stream, number, 1),
+    }
 }
 
 // The stream after a whole `floor` line.
-fn floor_taken(mut stream: Stream, text: &[u8]) -> Stream
+fn floor_taken(stream: Stream, text: &[u8]) -> Stream
     ensures { result ≡ stream_of (floor_taken (state_of stream []) (field_at floor_field text.now 0)) }
 {
-    let value = line_value(text, 0, b"floor=");
-    let n = number_of(value, LEAST_FLOOR, GREATEST_FLOOR);
-    let Number::Value(floor) = n else {
-        let fault = value_fault(text, 0, b"floor=", number_refusal(n));
-        return line_refused(stream, fault.number, 2);
-    };
-    stream.floor = floor;
-    at_stage(stream, Stage::Hours, stream.history)
+    match line_number(text, b"floor=", LEAST_FLOOR, GREATEST_FLOOR) {
+        Ok(floor) => Stream {
+            stage: Stage::Hours,
+            floor,
+            held: 0,
+            ..stream
+        },
+        Err(number) => line_refused(stream, number, 2),
+    }
 }
 
 // The stream after a whole line of either kind.
@@ -88,15 +102,11 @@ pub(crate) fn line_too_long(stream: Stream) -> Stream
 
 // The stream after a whole hour.
 pub(crate) fn hour_taken(stream: Stream, hour: &[u8]) -> Stream
-    ensures { result ≡ stream_of (hour_taken (state_of stream []) (booked stream.history hour.now).history (booked stream.history hour.now).answer) }
+    ensures { result ≡ stream_of (hour_taken (state_of stream []) (booked stream.history hour.now)) }
 {
-    let booking = book(stream.history, hour);
-    let answer = booking.answer;
-    match answer {
-        Answer::Refused(found) => {
-            return at_stage(stream, Stage::RefusedHour(found), stream.history);
-        }
-        Answer::Accepted => return at_stage(stream, Stage::Hours, booking.history),
+    match book(stream.history, hour) {
+        Ok(history) => at_stage(stream, Stage::Hours, history),
+        Err(found) => at_stage(stream, Stage::RefusedHour(found), stream.history),
     }
 }
 

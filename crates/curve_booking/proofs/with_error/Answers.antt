@@ -20,6 +20,7 @@ on z = to_z w64 (of_z w64 z)
 record Sums (g : Group) (e : ℤ) : Type 0 where
   pub sum : on (on g.sum +ℤ on e) ≡ g.sum +ℤ e
   pub squares : on (on g.squares +ℤ on (on e *ℤ on e)) ≡ g.squares +ℤ e *ℤ e
+  pub squares_fit : SFits w64 (on g.squares +ℤ on (on e *ℤ on e))
 
 sums : (g : Group) (e : ℤ) → SmallGroup g → nat_abs e ≤ 20000000 → Sums g e
 sums g e small near =
@@ -35,7 +36,11 @@ sums g e small near =
     record {
       sum = rw (to_z-of_z sum-fits, to_z-of_z error-fits) (to_z-of_z new-sum-fits);
       squares = rw (to_z-of_z squares-fits, to_z-of_z error-fits, to_z-of_z square-fits) (to_z-of_z new-squares-fits);
+      squares_fit = rw (to_z-of_z squares-fits, to_z-of_z error-fits, to_z-of_z square-fits) new-squares-fits;
     }
+
+pub overflow_add-result-3 : goal.overflow_add-result-3
+overflow_add-result-3 c = (sums c.args.g c.args.e c.requires.small_group c.requires.e_bound).squares_fit
 
 pub returns : goal.returns
 unfolding with_error

@@ -1,9 +1,7 @@
 -- Internal: what checking a row says to checking the rows.
-use Rattle.std.specs.Prelude.{ℕ, zero, suc, ◌+◌, ◌*◌, ◌≤◌, ◌≡◌, Bool, cond, List, [], ◌∷◌, ltb, ℤ, pos, nat_abs, length, take, drop}
+use Rattle.std.specs.Prelude.{ℕ, zero, suc, ◌+◌, ◌*◌, ◌≤◌, ◌≡◌, Bool, cond, List, [], ◌∷◌, ltb, ℤ, pos, nat_abs, length, take, drop, Ok}
 use Rattle.integer.specs.Range.{within}
-use Rattle.text_refusal.specs.Answer.{refusal}
-use Rattle.text_refusal.specs.declared.answer.Answer.{Answer}
-use Rattle.text_refusal.specs.declared.answer.Answer.TheVariants as answer
+use Rattle.text_refusal.specs.Answer.{Answer, refusal}
 use Rattle.text_id_table.specs.Ids.{id_at}
 use Rattle.text_id_table.specs.internal.Kept.{IdTable, RoomForOne}
 use Rattle.text_schema.specs.Schema.{value}
@@ -17,14 +15,14 @@ use Rattle.pricing_held.specs.Lines.{row_lines}
 
 -- the first of some numbers that is out of its range, by 7 and its line
 unfoldable pub numbers_checked : ℕ → List ℤ → List ℤ → List ℤ → Answer
-numbers_checked line lows highs [] = answer.Accepted
-numbers_checked line [] highs (z ∷ values) = answer.Accepted
-numbers_checked line (low ∷ lows) [] (z ∷ values) = answer.Accepted
+numbers_checked line lows highs [] = Ok tt
+numbers_checked line [] highs (z ∷ values) = Ok tt
+numbers_checked line (low ∷ lows) [] (z ∷ values) = Ok tt
 numbers_checked line (low ∷ lows) (high ∷ highs) (z ∷ values) = cond (within low high z) (numbers_checked (suc line) lows highs values) (refusal 7 line)
 
 -- a flag: a mark is badly written there
 abbrev pub flag_checked : ℕ → Bool → ℤ → Answer
-flag_checked line marked z = cond marked (refusal 6 line) (cond (within (pos 0) (pos 1) z) answer.Accepted (refusal 7 line))
+flag_checked line marked z = cond marked (refusal 6 line) (cond (within (pos 0) (pos 1) z) (Ok tt) (refusal 7 line))
 
 -- the numbers of a row as a row with an id, and with none
 abbrev pub row_in : List ℕ → List ℤ → Row
@@ -68,4 +66,4 @@ pub record RowRoom (ids : List ℕ) (i line : ℕ) (starts : List ℕ) : Type 0 
 pub record RowChecked (row : Row) (line : ℕ) (ids starts starts' : List ℕ) (found : Answer) : Type 0 where
   pub answers : (above : List (List ℕ)) → IdTable 0 ids starts above → RoomForOne starts above → found ≡ first_refused line (row_lines above row)
   pub table :
-      (above : List (List ℕ)) → IdTable 0 ids starts above → RoomForOne starts above → found ≡ answer.Accepted → IdTable 0 ids starts' (row.id ∷ above)
+      (above : List (List ℕ)) → IdTable 0 ids starts above → RoomForOne starts above → found ≡ Ok tt → IdTable 0 ids starts' (row.id ∷ above)

@@ -1,7 +1,8 @@
 -- Internal: what stands in a text that was read already, so that its values are taken with one look at each byte.
 use Rattle.std.specs.Prelude.{ℕ, ◌+◌, ◌*◌, ◌≤◌, Bool, ◌≡◌, List, [], ◌∷◌, ◌++◌, ℤ, pos, nat_abs, length, drop}
 use Rattle.text_line.specs.Field.{LineAnswer, got}
-use Rattle.text_number.specs.Marked.{Marked, written_marked}
+use Rattle.text_number.specs.declared.marked.Marked.{Marked}
+use Rattle.text_number.specs.Marked.{written_marked}
 use Rattle.text_schema.specs.Schema.{laid_over}
 use Rattle.pricing_sums.specs.declared.header.Header.{Header}
 use Rattle.pricing_snapshot.specs.Snapshot.{Entry, SnapshotAnswer, read}

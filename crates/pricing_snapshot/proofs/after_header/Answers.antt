@@ -4,7 +4,7 @@ use lib.IntN.{nat_abs}
 use mir.Facts.{to_z-of_z}
 use mir.Syntax.{w64}
 use mir.Val.{SFits}
-use Rattle.pricing_snapshot.proofs.MapErr.{mapped_ok}
+use Rattle.text_refusal.proofs.MapErr.{mapped_ok}
 use Rattle.pricing_snapshot.proofs.Snapshots.{rest_suspect, rest_whole}
 use Rattle.pricing_snapshot.proofs.after_header.Goals as goal
 use Rattle.pricing_snapshot.proofs.after_header.Goals.{After-magnitude-count}

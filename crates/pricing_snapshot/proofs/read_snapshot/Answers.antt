@@ -4,7 +4,7 @@ use mathlib.Core.Path.{◌≡◌}
 use borrow.Author.Rules.{rules}
 use lib.ListN.{length}
 use Rattle.text_refusal.specs.Refusal.{refusal_of}
-use Rattle.pricing_snapshot.proofs.MapErr.{mapped_ok, mapped_err}
+use Rattle.text_refusal.proofs.MapErr.{mapped_ok, mapped_err}
 use Rattle.pricing_snapshot.proofs.Snapshots.{snapshot_header, count_few, snapshot_rest}
 use Rattle.pricing_snapshot.proofs.read_snapshot.Goals as goal
 

@@ -1,6 +1,6 @@
 -- Internals of `feed`: what its own functions say to each other. No definition of the program rests on these.
-use Rattle.std.specs.Prelude.{ℕ, ◌+◌, ◌≤◌, ℤ, Bool, true, cond, List, ◌≡◌, eqb, length, take, drop}
-use Rattle.text_line.specs.Field.{Field, LineAnswer}
+use Rattle.std.specs.Prelude.{ℕ, ◌+◌, ◌≤◌, ℤ, Bool, true, cond, List, ◌≡◌, eqb, length, take, drop, Result, Ok, Err}
+use Rattle.text_line.specs.Field.{Field, LineAnswer, got, refused}
 use Rattle.curve_text.specs.CurveText.{voll_field, floor_field}
 use Rattle.program_curves.specs.Program.{ends_hour}
 use Rattle.program_curves.specs.Stream.{State, state_of, voll_taken, floor_taken, fed_all, buffer_fed_all}
@@ -26,6 +26,11 @@ field_of _ = floor_field
 abbrev pub taken_at : Stage → State → LineAnswer ℤ → State
 taken_at stage.Voll s found = voll_taken s found
 taken_at _ s found = floor_taken s found
+
+-- the number of a line, or the number of its refusal
+abbrev pub line_value : LineAnswer ℤ → Result ℤ ℕ
+line_value (got value next) = Ok value
+line_value (refused found) = Err found.number
 
 -- whether a byte after those held is the last one: an empty line after an hour, byte 10 of a line
 abbrev pub ends_at : Stage → List ℕ → ℕ → Bool

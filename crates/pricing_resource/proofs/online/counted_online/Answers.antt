@@ -1,4 +1,4 @@
-use Rattle.std.proofs.Common.{rules, arith, w32, w64, ◌≡◌, true, ℤ, pos, ◌*ℤ◌, to_z, of_z}
+use Rattle.std.proofs.Common.{rules, arith, w32, w64, ◌≡◌, refl, true, ℤ, pos, ◌*ℤ◌, to_z, of_z}
 use Rattle.std.proofs.lemmas.Int.{ints}
 use mir.Val.{SFits}
 use Rattle.pricing_resource.specs.Online.{is_gen_or_wind, is_running, counted_online}
@@ -17,4 +17,4 @@ returns c =
     let net : SFits w32 c.args.g.net = search rules in
     let known : is_gen_or_wind c.args.g.kind ≡ true = search rules in
     let running : is_running c.args.g.status c.args.g.nonspin ≡ true = search rules in
-    rw (known, running, least c.args.g.lsl lsl, held c.args.g.net net)
+    rw (known, running, least c.args.g.lsl lsl, held c.args.g.net net) refl

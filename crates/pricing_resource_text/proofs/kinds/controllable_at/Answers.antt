@@ -14,10 +14,10 @@ returns-in_err-read c =
     let told : c.from_residual.result ≡ Err c.in_err-read.field-0.0 = search rules in
     rw told (made_refused controllable_of (read_as controllable_is c.number_lines.ensures) c.in_err-read.was)
 
-pub controllable_of-requires : goal.controllable_of-requires
-controllable_of-requires c =
+pub narrowed-requires : goal.narrowed-requires
+narrowed-requires c =
     let told = (read_as controllable_is c.number_lines.ensures).taken c.in_ok-read.read c.in_ok-read.was in
-    rw told.1.1 (numbers_small controllable_fields controllable_small c.args.text.now c.args.at)
+    (search rules, (search rules, rw told.1.1 (numbers_small controllable_fields controllable_small c.args.text.now c.args.at)))
 
 pub returns : goal.returns
-returns c = made_read controllable_of (read_as controllable_is c.number_lines.ensures) c.in_ok-read.was c.controllable_of.ensures
+returns c = made_read controllable_of (read_as controllable_is c.number_lines.ensures) c.in_ok-read.was (rw c.narrowed.ensures at c.controllable_of.ensures)

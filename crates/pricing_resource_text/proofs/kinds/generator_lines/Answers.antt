@@ -14,10 +14,10 @@ returns-in_err-read c =
     let told : c.from_residual.result ≡ Err c.in_err-read.field-0.0 = search rules in
     rw told (made_refused (generator_of c.args.kind c.args.status) (read_as generator_is c.number_lines.ensures) c.in_err-read.was)
 
-pub generator_of-requires : goal.generator_of-requires
-generator_of-requires c =
+pub narrowed-requires : goal.narrowed-requires
+narrowed-requires c =
     let told = (read_as generator_is c.number_lines.ensures).taken c.in_ok-read.read c.in_ok-read.was in
-    rw told.1.1 (numbers_small generator_fields generator_small c.args.text.now c.args.at)
+    (search rules, (search rules, rw told.1.1 (numbers_small generator_fields generator_small c.args.text.now c.args.at)))
 
 pub returns : goal.returns
-returns c = made_read (generator_of c.args.kind c.args.status) (read_as generator_is c.number_lines.ensures) c.in_ok-read.was c.generator_of.ensures
+returns c = made_read (generator_of c.args.kind c.args.status) (read_as generator_is c.number_lines.ensures) c.in_ok-read.was (rw c.narrowed.ensures at c.generator_of.ensures)

@@ -14,10 +14,10 @@ returns-in_err-read c =
     let told : c.from_residual.result ≡ Err c.in_err-read.field-0.0 = search rules in
     rw told (made_refused load_of (read_as load_is c.number_lines.ensures) c.in_err-read.was)
 
-pub load_of-requires : goal.load_of-requires
-load_of-requires c =
+pub narrowed-requires : goal.narrowed-requires
+narrowed-requires c =
     let told = (read_as load_is c.number_lines.ensures).taken c.in_ok-read.read c.in_ok-read.was in
-    rw told.1.1 (numbers_small load_fields load_small c.args.text.now c.args.at)
+    (search rules, (search rules, rw told.1.1 (numbers_small load_fields load_small c.args.text.now c.args.at)))
 
 pub returns : goal.returns
-returns c = made_read load_of (read_as load_is c.number_lines.ensures) c.in_ok-read.was c.load_of.ensures
+returns c = made_read load_of (read_as load_is c.number_lines.ensures) c.in_ok-read.was (rw c.narrowed.ensures at c.load_of.ensures)
