@@ -1,6 +1,7 @@
 // A case: its text, and an operation on it.
-use crate::input::{read_count, read_full};
+use crate::input::read_count;
 use crate::operation::operate;
+use program_input::read_full;
 use std::io;
 use std::io::{Read, Write};
 

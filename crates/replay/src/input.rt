@@ -1,22 +1,11 @@
 // Numbers of the case file: 8 bytes each, the highest first, in two's complement.
 ghost use Rattle.std.specs.Prelude.{◌≤◌, IfOk};
 
+use program_input::read_full;
 use std::io;
 use std::io::Read;
 
-// Reads until the bytes are full or the file ends: those that the file does not have stay as they were.
-pub(crate) fn read_full(input: &mut impl Read, bytes: &mut [u8]) -> io::Result<()> {
-    let mut length: usize = 0;
-    while length < bytes.len() {
-        let count = input.read(&mut bytes[length..])?;
-        if count == 0 {
-            break;
-        }
-        length += count;
-    }
-    Ok(())
-}
-
+// Bytes that the file does not have stay 0.
 pub(crate) fn read_number(input: &mut impl Read) -> io::Result<i64> {
     let mut bytes = [0u8; 8];
     read_full(input, &mut bytes)?;

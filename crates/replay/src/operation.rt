@@ -16,7 +16,7 @@ use program_page::page_text;
 use program_price::price_text;
 use std::io;
 use std::io::{Read, Write};
-use text_line::piece::{part, piece_end};
+use text_line::piece::part;
 
 // The arrays that an operation is lent are shown on a refusal too, where they have to stand as before.
 fn book(input: &mut impl Read, out: &mut impl Write, text: &[u8]) -> io::Result<()> {
@@ -94,15 +94,12 @@ fn price(input: &mut impl Read, out: &mut impl Write, text: &[u8]) -> io::Result
 
 // The lines that a program prints, a space for the end of each. Bytes that no line end follows are shown too, so that none is hidden.
 fn show_printed(out: &mut impl Write, output: &[u8]) -> io::Result<()> {
-    let mut from: usize = 0;
-    while from < output.len() {
-        let next = piece_end(output, from, b'\n');
-        if next <= from {
-            return out.write_all(part(output, from, output.len()));
-        }
-        out.write_all(part(output, from, next - 1))?;
+    for line in output.split_inclusive(|byte| *byte == b'\n') {
+        let Some(ended) = line.strip_suffix(b"\n") else {
+            return out.write_all(line);
+        };
+        out.write_all(ended)?;
         out.write_all(b" ")?;
-        from = next;
     }
     Ok(())
 }
