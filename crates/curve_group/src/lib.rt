@@ -5,6 +5,7 @@ ghost use Rattle.std.specs.Prelude.{◌≡◌};
 ghost use Rattle.curve_group.specs.Season.{season_of, group_of};
 
 // The season of a month, as the methodology lists the months. No text has a month outside 1 to 12; it would be in season 0.
+// A number and no enum: the group counts with it, as `season_of` and `group_of` of specs/Season.antt do.
 #[tactic(auto, using(crate::proofs::Listed::season_number))]
 fn season_of(month: u64) -> u64
     ensures { result ≡ season_of month }
@@ -20,7 +21,7 @@ fn season_of(month: u64) -> u64
 
 // The group of a month and an hour: six blocks of four hours in each of four seasons, the first block from two hours before midnight on.
 // The hour is brought below 24 first, so that two hours more never overflow.
-#[tactic(auto, using(crate::proofs::Season::season_below))]
+#[tactic(auto, using(crate::proofs::Season::season_below), unfolding(crate::specs::Season::group_of, crate::specs::Season::block_of))]
 pub fn group_of(month: u64, hour: u64) -> u64
     ensures { result ≡ group_of month hour }
 {

@@ -21,7 +21,7 @@ pub struct Header {
     pub count: i64,
 }
 
-// The least and the greatest number of each of the header's lines.
+// The least and the greatest number of each of the header's lines: two arrays, since `text_schema::read_lines` takes them as two slices.
 pub const HEADER_LOWS: [i64; 8] = [1, 0, -2000000, 0, 0, 0, 0, 0];
 
 pub const HEADER_HIGHS: [i64; 8] = [
@@ -37,7 +37,7 @@ fn header_values(h: Header) -> [i64; 8]
     ]
 }
 
-// The line of the first header number out of its range, or 0.
+// The line of the first header number out of its range, or 0, on which `header_fault_lem`, `header_bound` and `header_refused` are stated.
 pub fn header_fault(header: Header) -> usize
     ensures { result ≡ header_fault header }
 {
