@@ -11,7 +11,7 @@ use lib.ListN.{length, get_or, length-map}
 use Rattle.text_refusal.proofs.Choices.{and_left, and_right}
 use Rattle.text_word.specs.Word.{written_word}
 use Rattle.text_word.proofs.Words.{listed_word, written_listed, word_past}
-use Rattle.pricing_resource_text.specs.Resource.{kind_words, status_words}
+use Rattle.pricing_resource_text.specs.Resource.{kind_words}
 
 -- ---- a word by its place in a list that is lent
 
@@ -44,6 +44,3 @@ word_short most words all index = rw (written_listed words index) (go words inde
 
 pub kind_short : (place : ℕ) → length (written_word kind_words place) ≤ 4
 kind_short place = word_short 4 kind_words refl place
-
-pub status_short : (place : ℕ) → length (written_word status_words place) ≤ 8
-status_short place = word_short 8 status_words refl place

@@ -36,7 +36,6 @@ pub(crate) fn kind_word(kind: usize) -> &'static [u8]
 }
 
 // The word of a status.
-#[tactic(auto, using(crate::proofs::Listed::status_short))]
 pub(crate) fn status_word(status: usize) -> &'static [u8]
     ensures word { result.now ≡ written_word status_words status }
     ensures short { length result.now ≤ 8 }
