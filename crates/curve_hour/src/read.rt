@@ -9,7 +9,7 @@ use text_line::end_at;
 use text_refusal::refusal::{Fault, Refusal, refusal_of};
 use text_schema::read_lines;
 
-// The least and the greatest number of each line before the runs.
+// The least and the greatest number of each line before the runs, apart as `read_lines` takes them.
 const LOWS: [i64; 13] = [1, 0, 0, 0, -20000000, 0, 0, 0, 0, 0, 0, 0, 1];
 
 const HIGHS: [i64; 13] = [

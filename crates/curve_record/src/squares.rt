@@ -16,7 +16,7 @@ pub(crate) fn squares_around(g: Group, x: i64) -> i64
     g.squares - 2 * (x * g.sum) + (g.count as i64) * (x * x)
 }
 
-// V of a group with x for its mean; 0 where the group's numbers or x are too large for any record that is possible.
+// V of a group with x for its mean; 0 where the group's numbers or x are too large for any record that is possible, as the definition of that name says.
 #[tactic(auto, unfolding(crate::specs::Squares::squares_near))]
 pub fn squares_near(g: Group, x: i64) -> i64
     ensures { result ≡ squares_near g x }

@@ -29,7 +29,8 @@ fn pair_of(g: Group) -> Pair
     }
 }
 
-// The curves of a record's groups, or the first faulty group: 12 for fewer than 2 hours, then 13 for a spread of 0.
+// The curves of a record's groups, or the first faulty group: 12 for fewer than 2 hours, then 13 for a spread of 0. VOLL and X stay two numbers: `settle`, which
+// docs/STATEMENTS.md names, takes them so.
 #[tactic(auto, using(crate::proofs::Turn::too_few))]
 fn settle_groups(history: Record, voll: i64, floor: i64) -> Result<CurveSet, Refusal>
     requires { record_possible history ≡ true }

@@ -7,7 +7,7 @@ ghost use Rattle.ordc.specs.Record.{count_of, record_of, record_values};
 use curve_record::{Group, Record};
 use integer::magnitude;
 
-// A count that was handed in: one below 0 is as impossible as one over 1000.
+// A count that was handed in, a number of the C interface: one below 0 is as impossible as one over 1000.
 fn count_of(z: i64) -> u64
     ensures { result ≡ count_of z }
 {

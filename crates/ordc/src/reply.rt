@@ -4,7 +4,7 @@ ghost use Rattle.ordc.specs.Reply.{reply_to};
 
 use text_refusal::refusal::Refusal;
 
-// A refusal's number and line; both 0 where nothing was refused.
+// A refusal's number and line; both 0 where nothing was refused, since it is a struct of the C interface.
 #[repr(C)]
 #[derive(Clone, Copy)]
 pub struct Reply {

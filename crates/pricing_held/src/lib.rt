@@ -37,7 +37,7 @@ pub fn held_number_rows<'a>(ids: &[u8], numbers: &'a [i64]) -> &'a [[i64; 9]]
     &rows[..held_count(ids, numbers)]
 }
 
-// A number as a place in a list of words: one below 0 stands outside the list, as one above does.
+// A number as a place in a list of words, since hosts name kinds and statuses by it: one below 0 stands outside the list, as one above does.
 pub fn place_of(z: i64) -> usize
     ensures { result ≡ place_of z }
 {

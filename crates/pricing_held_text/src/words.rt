@@ -26,7 +26,7 @@ fn word_at(words: &[&'static [u8]], place: usize) -> &'static [u8]
     }
 }
 
-// The word of a kind.
+// The word of a kind, which hosts name by its place.
 #[tactic(auto, using(crate::proofs::Listed::kind_short))]
 pub(crate) fn kind_word(kind: usize) -> &'static [u8]
     ensures word { result.now ≡ written_word kind_words kind }

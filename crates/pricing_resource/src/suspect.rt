@@ -61,7 +61,7 @@ fn lines_before_numbers(resource: Resource) -> usize
     }
 }
 
-// How many numbers stand before the first marked one; 5 where none of the first five is marked.
+// How many numbers stand before the first marked one; 5 where none of the first five is marked: that many do.
 #[tactic(auto, using(crate::proofs::Suspects::before_first))]
 fn unmarked_before(marks: u64) -> usize
     ensures { result ≡ unmarked_before 5 marks }

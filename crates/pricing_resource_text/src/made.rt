@@ -17,7 +17,7 @@ pub(crate) fn narrowed<const N: usize>(v: [i64; N]) -> [i32; N]
     out
 }
 
-// A status by its place in the list of words.
+// A status by its place in the list of words, by which hosts name it.
 pub fn status_of(index: usize) -> Status
     ensures { result ≡ status_of index }
 {

@@ -5,6 +5,7 @@ use mathlib.Core.List.{[]}
 use lib.IntN.{ℤ}
 use native.Mathlib.Omega.{arith}
 use Rattle.std.specs.Prelude.{Ok, Err}
+use Rattle.text_refusal.specs.declared.refusal.Fault.{Fault}
 use Rattle.text_line.specs.Field.{LineAnswer, got, refused}
 use Rattle.program_curves.specs.Stream.{State, refused_settle, voll_taken, floor_taken}
 use Rattle.program_curves.specs.internal.Feeding.{line_of, line_value, field_of, taken_at}
@@ -19,7 +20,7 @@ waits stage.Hours h = absurd (omega arith)
 waits (stage.RefusedHour found) h = absurd (omega arith)
 waits (stage.RefusedSettle found) h = absurd (omega arith)
 
--- what a line leads to, by its number or by the number of its refusal
+-- what a line leads to, by its number or by its fault
 module _ (s : State) (found : LineAnswer ℤ) where
   pub voll_got : (voll : ℤ) → line_value found ≡ Ok voll → voll_taken s found ≡ record { stage = stage.Floor; voll = voll; floor = s.floor; history = s.history; held = [] }
   voll_got voll = go found
@@ -28,12 +29,12 @@ module _ (s : State) (found : LineAnswer ℤ) where
       go (got value next) e = let same : value ≡ voll = cc in rw same
       go (refused fault) e = cc
 
-  pub voll_refused : (number : ℕ) → line_value found ≡ Err number → voll_taken s found ≡ refused_settle s number 1
-  voll_refused number = go found
+  pub voll_refused : (fault : Fault) → line_value found ≡ Err fault → voll_taken s found ≡ refused_settle s fault.number 1
+  voll_refused fault = go found
     where
-      go : (a : LineAnswer ℤ) → line_value a ≡ Err number → voll_taken s a ≡ refused_settle s number 1
+      go : (a : LineAnswer ℤ) → line_value a ≡ Err fault → voll_taken s a ≡ refused_settle s fault.number 1
       go (got value next) e = cc
-      go (refused fault) e = let same : fault.number ≡ number = cc in rw same
+      go (refused met) e = let same : met ≡ fault = cc in rw same
 
   pub floor_got : (floor : ℤ) → line_value found ≡ Ok floor → floor_taken s found ≡ record { stage = stage.Hours; voll = s.voll; floor = floor; history = s.history; held = [] }
   floor_got floor = go found
@@ -42,9 +43,9 @@ module _ (s : State) (found : LineAnswer ℤ) where
       go (got value next) e = let same : value ≡ floor = cc in rw same
       go (refused fault) e = cc
 
-  pub floor_refused : (number : ℕ) → line_value found ≡ Err number → floor_taken s found ≡ refused_settle s number 2
-  floor_refused number = go found
+  pub floor_refused : (fault : Fault) → line_value found ≡ Err fault → floor_taken s found ≡ refused_settle s fault.number 2
+  floor_refused fault = go found
     where
-      go : (a : LineAnswer ℤ) → line_value a ≡ Err number → floor_taken s a ≡ refused_settle s number 2
+      go : (a : LineAnswer ℤ) → line_value a ≡ Err fault → floor_taken s a ≡ refused_settle s fault.number 2
       go (got value next) e = cc
-      go (refused fault) e = let same : fault.number ≡ number = cc in rw same
+      go (refused met) e = let same : met ≡ fault = cc in rw same

@@ -13,7 +13,7 @@ ghost use Rattle.program_curves.specs.Stream.{start, stream_of, is_refused};
 use curve_record::{Record, fresh};
 use text_refusal::refusal::Refusal;
 
-// What the stream waits for, or why it ended.
+// What the stream waits for, or why it ended: two texts can be refused, and `fed` and `finished` of specs/Stream.antt go by which.
 #[derive(Clone, Copy)]
 pub enum Stage {
     // The `voll` line, then the `floor` line.

@@ -14,7 +14,7 @@ use curve_record::possible::record_possible;
 use curve_set::{GREATEST_FLOOR, GREATEST_VOLL, LEAST_FLOOR, LEAST_VOLL};
 use text_line::line::{line_value, value_fault};
 use text_number::{number_of, number_refusal};
-use text_refusal::refusal::Refusal;
+use text_refusal::refusal::{Fault, Refusal};
 
 // The stream at another stage, with a record, and with no bytes held.
 fn at_stage(stream: Stream, stage: Stage, history: Record) -> Stream
@@ -36,16 +36,16 @@ fn line_refused(stream: Stream, number: u64, line: usize) -> Stream
     at_stage(stream, Stage::RefusedSettle(found), stream.history)
 }
 
-// The number of a line at the start of a text, or the number of the line's refusal.
-fn line_number(text: &[u8], key: &[u8], low: i64, high: i64) -> Result<i64, u64>
+// The number of a line at the start of a text, or the line's fault.
+fn line_number(text: &[u8], key: &[u8], low: i64, high: i64) -> Result<i64, Fault>
     ensures { result ≡ line_value (field_at (number_field key.now low high) text.now 0) }
 {
     let value = line_value(text, 0, key);
     let n = number_of(value, low, high);
-    if let Ok(number) = n {
-        return Ok(number);
-    }
-    Err(value_fault(text, 0, key, number_refusal(n)).number)
+    let Ok(number) = n else {
+        return Err(value_fault(text, 0, key, number_refusal(n)));
+    };
+    Ok(number)
 }
 
 // The stream after a whole `voll` line.
@@ -59,7 +59,7 @@ fn voll_taken(stream: Stream, text: &[u8]) -> Stream
             held: 0,
             ..stream
         },
-        Err(number) => line_refused(stream, number, 1),
+        Err(fault) => line_refused(stream, fault.number, 1),
     }
 }
 
@@ -74,7 +74,7 @@ fn floor_taken(stream: Stream, text: &[u8]) -> Stream
             held: 0,
             ..stream
         },
-        Err(number) => line_refused(stream, number, 2),
+        Err(fault) => line_refused(stream, fault.number, 2),
     }
 }
 

@@ -18,7 +18,7 @@ pub enum NumberError {
     Malformed,
 }
 
-// The number of the refusal; 0 where the number is taken.
+// The number of the refusal; 0 where the number is taken, and no Option: the definition has the 0, and so do the contracts of those that write such numbers.
 pub fn number_refusal<T: Copy>(n: Result<T, NumberError>) -> u64
     ensures { result ≡ number_refusal n }
 {

@@ -10,7 +10,7 @@ pub struct Fault {
     pub at: usize,
 }
 
-// A refusal as a caller sees it: its number, and the line, the first line being 1.
+// A refusal as a caller sees it: its number, and the line, the first line being 1. The number stays one as a fault's does.
 #[derive(Clone, Copy)]
 pub struct Refusal {
     pub number: u64,

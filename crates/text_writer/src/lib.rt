@@ -1,5 +1,6 @@
 // Writing into a lent buffer: the length is known before a byte is written, and bytes after the text stay. What writing gives is where the next byte stands, or None
-// where the buffer is shorter than the text (14).
+// where the buffer is shorter than the text (14). A buffer and a place in it stay apart: `TextLaid` and `TextWritten` speak of both, and a struct of the two would
+// be taken apart and made again around each call.
 #![tactic(auto)]
 
 ghost use Rattle.std.specs.Prelude.{◌≡◌, ◌≤◌, ◌+◌, ◌-◌, length};

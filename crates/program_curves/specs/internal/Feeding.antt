@@ -1,5 +1,6 @@
 -- Internals of `feed`: what its own functions say to each other. No definition of the program rests on these.
 use Rattle.std.specs.Prelude.{ℕ, ◌+◌, ◌≤◌, ℤ, Bool, true, cond, List, ◌≡◌, eqb, length, take, drop, Result, Ok, Err}
+use Rattle.text_refusal.specs.declared.refusal.Fault.{Fault}
 use Rattle.text_line.specs.Field.{Field, LineAnswer, got, refused}
 use Rattle.curve_text.specs.CurveText.{voll_field, floor_field}
 use Rattle.program_curves.specs.Program.{ends_hour}
@@ -27,10 +28,10 @@ abbrev pub taken_at : Stage → State → LineAnswer ℤ → State
 taken_at stage.Voll s found = voll_taken s found
 taken_at _ s found = floor_taken s found
 
--- the number of a line, or the number of its refusal
-abbrev pub line_value : LineAnswer ℤ → Result ℤ ℕ
+-- the number of a line, or its fault
+abbrev pub line_value : LineAnswer ℤ → Result ℤ Fault
 line_value (got value next) = Ok value
-line_value (refused found) = Err found.number
+line_value (refused found) = Err found
 
 -- whether a byte after those held is the last one: an empty line after an hour, byte 10 of a line
 abbrev pub ends_at : Stage → List ℕ → ℕ → Bool

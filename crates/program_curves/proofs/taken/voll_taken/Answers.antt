@@ -7,4 +7,4 @@ pub returns-in-Ok : goal.returns-in-Ok
 returns-in-Ok c = rw (voll_got (state_of c.args.stream []) _ c.in-Ok.voll (sym c.line_number.ensures ∙ c.in-Ok.is)) (search rules)
 
 pub returns-in-Err : goal.returns-in-Err
-returns-in-Err c = rw (voll_refused (state_of c.args.stream []) _ c.in-Err.number (sym c.line_number.ensures ∙ c.in-Err.is)) c.line_refused.ensures
+returns-in-Err c = rw (voll_refused (state_of c.args.stream []) _ c.in-Err.fault (sym c.line_number.ensures ∙ c.in-Err.is)) c.line_refused.ensures
