@@ -9,7 +9,6 @@ use Rattle.curve_set.specs.Curves.{curves_in_range}
 use Rattle.curve_set.specs.declared.CurveSet.{CurveSet}
 use Rattle.pricing_adder.specs.Price.{Pricing, prices_of, sums_priced, refused_pricing}
 use Rattle.pricing_sums.specs.declared.header.Header.{Header}
-use Rattle.pricing_sums.specs.declared.Sums.{Sums}
 use Rattle.pricing_adder.proofs.Accepted.{sums_priced_lem}
 use Rattle.pricing_sums.specs.Part.{sums_of}
 use Rattle.pricing_sums.proofs.Parts.{sums_possible_lem}

@@ -2,12 +2,12 @@
 -- of any header that was read no higher mean and the same spread.
 use Prim.Native.Nat.{ℕ, ◌≤◌, ◌<◌}
 use native.Mathlib.Omega.{arith}
-use mathlib.Core.Path.{◌≡◌, refl}
+use mathlib.Core.Path.{◌≡◌}
 use mathlib.Core.List.{List, map}
 use lib.IntN.{ℤ, pos, nat_abs, ◌-ℤ◌}
 use lib.ListN.{get_or}
 use lib.Signed.{◌≤ℤ◌}
-use Rattle.std.specs.Prelude.{Result, Ok, Err}
+use Rattle.std.specs.Prelude.{Result, Ok}
 use Rattle.curve_set.specs.declared.CurveSet.{CurveSet}
 use Rattle.integer.proofs.Difference.{view, to_ℕ}
 use Rattle.text_refusal.specs.declared.refusal.Refusal.{Refusal}
