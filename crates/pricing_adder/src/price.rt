@@ -57,8 +57,8 @@ struct Shortages {
 
 impl Tested {
     // The mean and the spread of the header's group.
-    fn pair(self) -> Pair
-        ensures value { result ≡ pair_for self.curves self.header }
+    fn pair(&self) -> Pair
+        ensures value { result ≡ pair_for self.now.curves self.now.header }
         ensures mean_bound { nat_abs result.mean ≤ 20000000 }
         ensures spread_bound { nat_abs result.spread ≤ 20000000 }
     {
@@ -67,19 +67,19 @@ impl Tested {
     }
 
     // v = max(0, VOLL - lambda).
-    fn value(self) -> u64
-        ensures value { result ≡ value_of_reserve self.curves self.header }
+    fn value(&self) -> u64
+        ensures value { result ≡ value_of_reserve self.now.curves self.now.header }
         ensures bound { result ≤ 4000000 }
     {
         magnitude((self.curves.voll - self.header.lambda).max(0))
     }
 
     // piS of RS and piNS of RSNS.
-    fn shortages(self, rs: i64, rsns: i64) -> Shortages
-        requires online { rs ≡ online_reserve self.header self.sums }
-        requires total { rsns ≡ total_reserve self.header self.sums }
-        ensures online { result.online ≡ shortage_online self.curves self.header self.sums }
-        ensures offline { result.offline ≡ shortage_offline self.curves self.header self.sums }
+    fn shortages(&self, rs: i64, rsns: i64) -> Shortages
+        requires online { rs ≡ online_reserve self.now.header self.now.sums }
+        requires total { rsns ≡ total_reserve self.now.header self.now.sums }
+        ensures online { result.online ≡ shortage_online self.now.curves self.now.header self.now.sums }
+        ensures offline { result.offline ≡ shortage_offline self.now.curves self.now.header self.now.sums }
     {
         let pair = self.pair();
         let floor = self.curves.floor as i32;
@@ -92,8 +92,8 @@ impl Tested {
     }
 
     // Both prices, each rounded once.
-    fn prices(self) -> Prices
-        ensures { result ≡ prices_of self.curves self.header self.sums }
+    fn prices(&self) -> Prices
+        ensures { result ≡ prices_of self.now.curves self.now.header self.now.sums }
     {
         let rs = self.online_reserve();
         let rsns = self.total_reserve();

@@ -50,5 +50,5 @@ pub returns : goal.returns
 returns c =
     let rs : FitsSigned w64 c.online_reserve-rs.result = search rules in
     let rsns : FitsSigned w64 c.total_reserve-rsns.result = search rules in
-    prices_same c.args.self.curves c.args.self.header c.args.self.sums (to_z-of_z rs ∙ c.online_reserve-rs.ensures) (to_z-of_z rsns ∙ c.total_reserve-rsns.ensures)
+    prices_same c.args.self.now.curves c.args.self.now.header c.args.self.now.sums (to_z-of_z rs ∙ c.online_reserve-rs.ensures) (to_z-of_z rsns ∙ c.total_reserve-rsns.ensures)
     c.shortages-s.ensures.online c.shortages-s.ensures.offline c.value-value.ensures.value c.rounded_share.ensures c.rounded_share-2.ensures
