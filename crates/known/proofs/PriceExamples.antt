@@ -4,6 +4,7 @@ use mathlib.Core.Path.{◌≡◌, refl}
 use mathlib.Core.List.{[], ◌∷◌}
 use lib.IntN.{ℤ, pos, negsuc, ◌*ℤ◌}
 use lib.ListN.{replicate}
+use Rattle.std.specs.Prelude.{Ok}
 use Rattle.integer.specs.Floor.{floor_div}
 use Rattle.integer.specs.Order.{min_ℤ, max_ℤ}
 use Rattle.normal.specs.Knot.{knot}

@@ -7,7 +7,7 @@ use lib.Dec.{lit<, lit≤}
 use lib.Signed.{◌≤ℤ◌, ≤ℤ_refl}
 use lib.ListN.{replicate}
 use lib.IntN.{ℤ, pos, negsuc, ◌-ℤ◌}
-use Rattle.std.specs.Prelude.{Result, Ok, Err}
+use Rattle.std.specs.Prelude.{Result, Ok}
 use Rattle.text_refusal.specs.Answer.{Answer, answer_of}
 use Rattle.text_refusal.specs.declared.refusal.Refusal.{Refusal}
 use Rattle.integer.specs.Floor.{floor_div}

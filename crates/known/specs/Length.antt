@@ -1,7 +1,7 @@
 -- Document 02, W-205: the length of a curve set's text, worked out by hand. The keys with `=`, and byte 10 of each line, have 277 bytes: 6 with `voll=`, 7 with `floor=`,
 -- and 24 times 4 with `mu=` and 7 with `sigma=`. The rest is numbers.
 use Rattle.text_refusal.specs.declared.refusal.Refusal.{Refusal}
-use Rattle.std.specs.Prelude.{List, [], ◌∷◌, ℤ, pos, neg_ℤ, Result, Ok, Err}
+use Rattle.std.specs.Prelude.{ℕ, List, [], ◌∷◌, ℤ, pos, neg_ℤ, Result, Ok, Err}
 use Rattle.curve_set.specs.Curves.{even_curves}
 use Rattle.curve_text.specs.Length.{curves_length}
 

@@ -1,9 +1,8 @@
 -- Document 01, "Known values" and "Traps", and document 02, W-202: those of pricing, each with what it is to be.
-use Rattle.std.specs.Prelude.{ℕ, List, [], ◌∷◌, ◌++◌, ℤ, pos, negsuc, replicate, set}
+use Rattle.std.specs.Prelude.{ℕ, List, [], ◌∷◌, ◌++◌, ℤ, pos, negsuc, replicate, set, Ok, Err}
 use Rattle.text_refusal.specs.Bytes.{bytes}
 use Rattle.curve_set.specs.declared.CurveSet.{CurveSet}
-use Rattle.pricing_adder.specs.Price.{price_values}
-use Rattle.pricing_adder.specs.Price.{Pricing}
+use Rattle.pricing_adder.specs.Price.{Pricing, price_values}
 use Rattle.pricing.specs.Pricing.{priced}
 
 -- document 01's numbers for each case of a pricing: `rs rsns pis pins online offline`, or the refusal's number and its line
