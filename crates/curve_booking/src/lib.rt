@@ -12,6 +12,7 @@ use curve_record::{Group, Record};
 use text_refusal::refusal::Refusal;
 
 // A group with one error more.
+// The first clause is no invariant of `Group`, which is public: hosts lend any numbers for it (the C interface).
 fn with_error(g: Group, e: i64) -> Group
     requires small_group { SmallGroup g }
     requires e_bound { nat_abs e ≤ 20000000 }
@@ -25,6 +26,7 @@ fn with_error(g: Group, e: i64) -> Group
 }
 
 // An error booked on its group: 10 where the group has 1000 hours, 11 where the error lies beyond its bounds.
+// The first clause is no invariant of `Record`, which is public: hosts lend any numbers for it (the C interface).
 fn book_error(history: Record, group: usize, e: i64) -> Result<Record, Refusal>
     requires history_value { record_possible history ≡ true }
     requires group_bound { group < 24 }

@@ -33,6 +33,7 @@ impl Model for RunValues {
 
 impl RunValues {
     // The values in the order of their lines.
+    // No `From`: it takes any array, and these numbers have to be in their ranges.
     fn of(values: &[i64; 9]) -> RunValues
         requires { RunInRange (run_of values.now) }
         ensures { result ≡ run_of values.now }
@@ -61,6 +62,7 @@ impl RunValues {
 }
 
 // The sum of the runs' reserves, and where their lines end.
+// A struct of its own: its first field says what was read; a generic one would say `value` everywhere.
 #[derive(Clone, Copy)]
 pub(crate) struct Intervals {
     pub(crate) sum: i64,

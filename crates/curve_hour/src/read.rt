@@ -32,6 +32,7 @@ fn runs_at(text: &[u8], next: usize, hour: &HourValues) -> Result<HourlyError, R
     ensures { result ≡ error_answer (runs_at text.now hour.now next) }
 {
     let runs = hour.runs();
+    // A `match`: the closure of a `map_err` would need a `requires` of its own, since the sum fits for this fault and not for any.
     let read = match read_intervals(&text[next..], runs) {
         Ok(read) => read,
         Err(fault) => {

@@ -35,6 +35,7 @@ impl Model for HourValues {
 
 impl HourValues {
     // The values in the order of their lines.
+    // No `From`: it takes any array, and these numbers have to be in their ranges.
     pub(crate) fn of(values: &[i64; 13]) -> HourValues
         requires { HourInRange (hour_of values.now) }
         ensures { result ≡ hour_of values.now }

@@ -15,6 +15,7 @@ use text_refusal::refusal::Refusal;
 use text_writer::row::write_row;
 
 // The names of the four seasons, each padded right to 6.
+// One byte string, cut by `part`: the law `season_part`, on which the proof of a row stands, is about such a part.
 const SEASONS: [u8; 24] = *b"winterspringsummerfall  ";
 
 // The widths of block, mean, spread and the four probabilities.
@@ -27,6 +28,7 @@ const ABOVE: [u32; 4] = [1000000, 2000000, 3000000, 4000000];
 const PAGE_BYTES: usize = 1728;
 
 // The numbers of a row: block, mean, spread and four probabilities. Where X lies does not show, so it is 0 here.
+// Each entry by name: they are columns of the row, of which the first three are other numbers.
 fn row_values(group: usize, pair: Pair) -> [i64; 7]
     requires { pair_in_range pair ≡ true }
     ensures { result ≡ row_values (pos 0) group pair }

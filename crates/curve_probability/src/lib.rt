@@ -23,6 +23,7 @@ fn distance_above(reserve: i64, floor: i32) -> u64
 }
 
 // The numerator of piS at a distance above X.
+// Beside that of piNS, from which it differs in two factors: one function would take both, and is no plainer.
 #[tactic(auto, using(std::proofs::lemmas::Int::ints))]
 fn online_numerator(distance: u64, mean: i32) -> i64
     requires { distance ≤ 1099511627776 }
@@ -41,6 +42,7 @@ fn offline_numerator(distance: u64, mean: i32) -> i64
 }
 
 // The numerators of piNS at four distances above X.
+// Four and no const parameter, as `offline_probabilities` has them.
 fn numerators_above(above: [u32; 4], mean: i32) -> [i64; 4]
     ensures { result ≡ map (λ (distance : ℕ). pos 100 *ℤ (pos distance -ℤ mean)) above }
 {
@@ -63,6 +65,8 @@ fn left_of_one(distance: u64, value: u64) -> u64
 }
 
 // piS, at a reserve, X, a mean and a spread in kW.
+// Two functions, this and the next, both of which docs/STATEMENTS.md names: what they have in common is `distance_above`, `distribution` and `left_of_one`.
+// Mean and spread stay two numbers from here on: both have smaller types than in a `Pair`.
 #[tactic(auto, using(crate::proofs::Distance::normal_at_most))]
 pub fn online_probability(reserve: i64, floor: i32, mean: i32, spread: u32) -> u64
     ensures { result ≡ online_probability reserve floor mean spread }
@@ -83,6 +87,7 @@ pub fn offline_probability(reserve: i64, floor: i32, mean: i32, spread: u32) -> 
 }
 
 // piNS at four distances above X in kW, with one table for all of them.
+// Four and no const parameter: the page, the one caller, has four such columns, and docs/STATEMENTS.md names it so.
 pub fn offline_probabilities(above: [u32; 4], mean: i32, spread: u32) -> [u64; 4]
     ensures { result ≡ offline_probabilities above mean spread }
 {

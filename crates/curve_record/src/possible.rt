@@ -20,6 +20,7 @@ fn mean_of(g: Group) -> i64
 }
 
 // Whether V is not negative at the mean of a group, nor at the whole number next to it.
+// The first clause is no invariant of `Group`, which is public: hosts lend any numbers for it (the C interface).
 #[tactic(auto, using(std::proofs::lemmas::Int::ints))]
 fn is_not_negative_around_mean(g: Group) -> bool
     requires small_group { SmallGroup g }

@@ -8,6 +8,7 @@ use crate::Group;
 use integer::magnitude;
 
 // V of a group with x for its mean, which fits where the group's numbers and x are small.
+// The first clause is no invariant of `Group`, which is public: hosts lend any numbers for it (the C interface).
 pub(crate) fn squares_around(g: Group, x: i64) -> i64
     requires small_group { SmallGroup g }
     requires x_bound { nat_abs x ≤ 20000001 }

@@ -10,6 +10,7 @@ use integer::range::is_within;
 use text_refusal::refusal::Refusal;
 
 // The least and the greatest VOLL, X, mean and spread.
+// A least and a greatest each, apart: `is_within` and `read_lines` take them so.
 pub const LEAST_VOLL: i64 = 0;
 
 pub const GREATEST_VOLL: i64 = 2000000;

@@ -10,6 +10,7 @@ const MEANS: usize = 2;
 const SPREADS: usize = 3;
 
 // The mean and the spread of a group laid at their places.
+// By place, here and in the next three functions: a proof knows nothing of what `iter_mut` or `as_chunks_mut` lent, once the loan is over.
 fn lay_pair(values: &mut [i64; 50], group: usize, pair: Pair)
     requires { group < 24 }
     ensures { values.new ≡ set (set values.old (2 + 2 * group) pair.mean) (3 + 2 * group) pair.spread }
@@ -21,6 +22,7 @@ fn lay_pair(values: &mut [i64; 50], group: usize, pair: Pair)
 }
 
 // The values of a curve set in the order of its lines.
+// A function and no `From`: docs/STATEMENTS.md names it, and it promises the definition `curve_values`.
 pub fn values_of(curves: CurveSet) -> [i64; 50]
     ensures { result ≡ curve_values curves }
 {
@@ -46,6 +48,7 @@ fn pair_at(values: &[i64; 50], group: usize) -> Pair
 }
 
 // The curve set of values in the order of its lines.
+// A function and no `From`: docs/STATEMENTS.md names it, and it promises the definition of its name.
 pub fn curves_of(values: [i64; 50]) -> CurveSet
     ensures { result ≡ curves_of values }
 {

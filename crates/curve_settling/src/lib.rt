@@ -30,7 +30,8 @@ fn pair_of(g: Group) -> Pair
 }
 
 // The curves of a record's groups, or the first faulty group: 12 for fewer than 2 hours, then 13 for a spread of 0. VOLL and X stay two numbers: `settle`, which
-// docs/STATEMENTS.md names, takes them so.
+// docs/STATEMENTS.md names, takes them so. The clause is no invariant of `Record`, which is public: hosts lend any numbers for it (the C interface).
+// The group's number stands in the place of the line: `settled_curves` has it so, and docs/REFUSALS.md tells hosts so.
 #[tactic(auto, using(crate::proofs::Turn::too_few))]
 fn settle_groups(history: Record, voll: i64, floor: i64) -> Result<CurveSet, Refusal>
     requires { record_possible history ≡ true }

@@ -11,6 +11,8 @@ use text_refusal::refusal::Refusal;
 use text_writer::number_length;
 
 // How many bytes numbers have, one after the other.
+// Here and in pricing_held_text: as one public function it could ask for no bound (no public function has a `requires`), and the sum of many lengths
+// need not fit a number.
 fn numbers_length(values: &[i64]) -> usize
     requires { length values.now ≤ 50 }
     ensures counted { result ≡ number_bytes values.now }

@@ -19,6 +19,7 @@ use text_refusal::refusal::{Fault, Refusal, refusal_of};
 use text_schema::read_lines;
 use text_writer::write_lines;
 
+// The keys, one byte string, as `read_lines` and `write_lines` take them.
 pub(crate) const KEYS: [u8; 227] =
     *b"voll=floor=mu=sigma=mu=sigma=mu=sigma=mu=sigma=mu=sigma=mu=sigma=mu=sigma=mu=sigma=mu=sigma=mu=sigma=mu=sigma=mu=sigma=mu=sigma=mu=sigma=mu=sigma=mu=sigma=mu=sigma=mu=sigma=mu=sigma=mu=sigma=mu=sigma=mu=sigma=mu=sigma=mu=sigma=";
 

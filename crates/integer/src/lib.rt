@@ -15,6 +15,7 @@ fn complement(a: i64) -> u64
 }
 
 // The number without its sign; the least number has one too.
+// A name of its own for `unsigned_abs`: docs/STATEMENTS.md names it, and contracts speak of `nat_abs`.
 pub fn magnitude(a: i64) -> u64
     ensures { result ≡ nat_abs a }
 {

@@ -50,6 +50,7 @@ fn hash_of(id: &[u8]) -> usize
 // The slot of an id: the first from its bucket on that is empty or leads to the same id; past the last where there is none. A slot holds one more than the
 // position at which its id starts, and 0 where it is empty. The first half of the slots are buckets.
 // A slot and no Option: `slot_of` of specs/Table.antt gives one past the last, and by the law `slot_within` callers find one within, with which they index.
+// An array of places and no map: there is no heap. The 0 of an empty slot and no Option: `slot_of` has it, and callers lend arrays of zeros.
 #[tactic(auto, using(crate::proofs::Slots::slot_past, crate::proofs::Slots::slot_start, crate::proofs::Slots::slot_over, crate::proofs::Slots::slot_none, crate::proofs::Slots::slot_same, crate::proofs::Slots::slot_more))]
 pub fn slot_of(bytes: &[u8], mark: u8, starts: &[usize], id: &[u8]) -> usize
     ensures { result ≡ slot_of mark bytes.now starts.now id.now }

@@ -27,6 +27,7 @@ pub fn begins_with(text: &[u8], key: &[u8]) -> bool
 
 // The value of the line that is due at a position, as a part of the text; no bytes where the line is refused, since an empty value is refused too.
 // The bytes and no Option: docs/STATEMENTS.md states it, and the laws `field_got`, `field_within` and `field_refused` stand on `value_at`.
+// Text, position and key stay apart in the three functions from here on: docs/STATEMENTS.md names these, and their definitions take the three so.
 pub fn line_value<'a>(text: &'a [u8], at: usize, key: &[u8]) -> &'a [u8]
     ensures { result.now ≡ value_at key.now text.now at }
 {

@@ -30,6 +30,7 @@ pub fn number_refusal<T: Copy>(n: Result<T, NumberError>) -> u64
 }
 
 // A number from its sign and its distance.
+// Sign and distance stay two values from here on: together they may be beyond every i64, and a struct of both would be made and taken apart at once.
 fn signed(negative: bool, distance: u64) -> i64
     requires { distance ≤ 9223372036854775807 }
     ensures { result ≡ signed negative distance }
@@ -42,6 +43,7 @@ fn signed(negative: bool, distance: u64) -> i64
 }
 
 // Whether a number is outside a range; one that no machine number equals is outside every range.
+// Low and high stay two numbers from here on: docs/STATEMENTS.md names `number_of`, whose definition takes them so.
 #[tactic(auto, using(crate::proofs::Numbers::far_outside))]
 fn is_outside(negative: bool, distance: u64, low: i64, high: i64) -> bool
     ensures { result ≡ is_outside low high (signed negative distance) }

@@ -28,6 +28,7 @@ pub fn plain_number(n: Result<i64, NumberError>) -> Result<Marked, NumberError>
 }
 
 // The bytes of a value, read as a number from low to high that may be marked.
+// Low and high stay two numbers, as `number_of` takes them.
 #[tactic(auto, using(crate::proofs::LastByte::last_byte))]
 pub fn marked_of(value: &[u8], low: i64, high: i64) -> Result<Marked, NumberError>
     ensures { result ≡ marked_in low high value.now }

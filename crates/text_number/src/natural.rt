@@ -28,6 +28,7 @@ fn large_natural(digits: &[u8]) -> Result<u64, NumberError>
 }
 
 // The natural number that bytes write: at least one digit, digits alone, no leading zero.
+// By hand and no `parse`: that takes a leading zero and a `+`, which are badly written here, and more than nineteen digits are another error.
 #[tactic(auto, using(crate::proofs::Naturals::digits_start, crate::proofs::Naturals::digits_next, crate::proofs::Naturals::digits_fit, crate::proofs::Naturals::digits_below, crate::proofs::Naturals::digits_above, crate::proofs::Naturals::held_broken, crate::proofs::Naturals::held_one, crate::proofs::Naturals::held_no_bytes, crate::proofs::Naturals::held_zero_led, crate::proofs::Naturals::held_many))]
 pub(crate) fn natural_of(digits: &[u8]) -> Result<u64, NumberError>
     ensures { result ≡ held_natural digits.now }
@@ -37,6 +38,7 @@ pub(crate) fn natural_of(digits: &[u8]) -> Result<u64, NumberError>
     }
     let mut value: u64 = 0;
     for &byte in digits {
+        // One test for each end: the laws `digits_below` and `digits_above` answer one each.
         if byte < 48 {
             return Err(NumberError::Malformed);
         }

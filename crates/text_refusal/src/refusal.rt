@@ -11,6 +11,7 @@ pub struct Fault {
 }
 
 // A refusal as a caller sees it: its number, and the line, the first line being 1. The number stays one as a fault's does.
+// The line is 0 where no line is refused, and no Option: the definitions have it, and hosts read it in `Reply`, a struct of the C interface.
 #[derive(Clone, Copy)]
 pub struct Refusal {
     pub number: u64,

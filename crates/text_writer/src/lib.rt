@@ -49,6 +49,7 @@ fn put_bytes(buffer: &mut [u8], at: usize, bytes: &[u8]) -> usize
 }
 
 // The digits of a number before a position, the last one first, as far as they stand from another position on; where the first of them stands.
+// By hand and no `Display`, as all writing in this crate: `TextLaid` says each byte that the lent buffer then has.
 fn put_digits(buffer: &mut [u8], start: usize, end: usize, mut n: u64) -> usize
     requires { (start ≤ end) × (end ≤ length buffer.old) }
     ensures { TextLaid (cut_to (end - start) (digits_of n)) buffer.old result buffer.new end }
@@ -64,6 +65,7 @@ fn put_digits(buffer: &mut [u8], start: usize, end: usize, mut n: u64) -> usize
 }
 
 // A number by its sign and its magnitude, laid in the same way; where its first byte stands.
+// Sign and magnitude stay two values, here and in `put_value`: the magnitude of the least number is no i64.
 fn put_number(buffer: &mut [u8], start: usize, end: usize, negative: bool, n: u64) -> usize
     requires { (start ≤ end) × (end ≤ length buffer.old) }
     ensures { TextLaid (cut_to (end - start) (signed negative n)) buffer.old result buffer.new end }

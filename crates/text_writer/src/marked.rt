@@ -69,7 +69,7 @@ fn put_lines(buffer: &mut [u8], mut at: usize, keys: &[u8], values: &[i64], mut 
 }
 
 // The text of the values under their keys, at a position of a lent buffer: the lowest binary digit of the marks is the mark of the first value, the next that of the
-// second.
+// second. The marks are one number, as in the rows that hosts lend, and `put_lines` takes them so: docs/STATEMENTS.md names this function.
 pub fn write_marked_lines(
     buffer: &mut [u8],
     at: usize,

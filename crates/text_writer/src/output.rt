@@ -28,6 +28,7 @@ fn put_refusal(buffer: &mut [u8], found: Refusal, name: &[u8]) -> usize
 }
 
 // The lines of a refusal at the start of a lent buffer, with the name of the refused text.
+// By hand and no `Display`: `TextWritten` says each byte that the lent buffer then has.
 pub fn write_refusal(buffer: &mut [u8], found: Refusal, name: &[u8]) -> Option<usize>
     ensures { TextWritten (refusal_lines found name.now) buffer.old 0 buffer.new result }
 {

@@ -1,5 +1,5 @@
-// Whether lines have room, which is known before a byte is written. Keys, values and marks stay apart, as `write_marked_lines` takes them, and what is written has
-// other keys than what is counted: those up to the last `=`.
+// Whether lines have room, which is known before a byte is written. Keys, values and the marks, which are one number, stay apart, as `write_marked_lines`
+// takes them, and what is written has other keys than what is counted: those up to the last `=`.
 ghost use Rattle.std.specs.Prelude.{true, ℕ, ◌≡◌, ◌≤◌, leb, length};
 ghost use Rattle.text_number.specs.Marked.{marked_by};
 ghost use Rattle.text_schema.specs.Schema.{keys_of};

@@ -29,6 +29,7 @@ fn put_cell(buffer: &mut [u8], at: usize, width: usize, z: i64) -> usize
 }
 
 // Whether the cells and one byte more have room, which is known before a byte is written.
+// Widths and values stay two slices from here on: docs/STATEMENTS.md names `write_row`, whose definition answers for slices of unequal lengths too.
 fn cells_fit(widths: &[usize], values: &[i64], mut room: usize) -> bool
     ensures { result ≡ ltb (length (written_cells widths.now values.now)) room }
 {
