@@ -33,6 +33,7 @@ fn main(rt: HostRuntime) -> io::Result<()> {
     let Ok(stream) = read_stream(&mut rt.stdin(), &mut buffer) else {
         return eprintln!(rt; "curves: standard input could not be read");
     };
+    // An array of fixed size and how much of it is written: nothing is put on the heap.
     let mut output = [0u8; 768];
     let length = finish(stream, &buffer, &mut output);
     rt.stdout().write_all(part(&output, 0, length))

@@ -1,4 +1,5 @@
-// The layout of the record: 72 numbers, count, sum and sum of squares of each of the 24 groups in order.
+// The layout of the record: 72 numbers, count, sum and sum of squares of each of the 24 groups in order: the C interface has them so. They are
+// read and laid by place: the contracts name `value` and `set` at a place, and a proof knows no element of what `chunks_mut` lent once the loan is over.
 ghost use Rattle.std.specs.Prelude.{◌≡◌, true, ◌+◌, ◌<◌, ◌≤◌, pos, set};
 ghost use Rattle.text_schema.specs.Schema.{value};
 ghost use Rattle.curve_record.specs.Possible.{record_possible};
@@ -33,7 +34,7 @@ fn group_at(values: &[i64; 72], place: usize) -> Group
     }
 }
 
-// A group before any hour.
+// A group before any hour, here once more: `curve_record::fresh` has it within its record alone.
 const NO_HOURS: Group = Group {
     count: 0,
     sum: 0,

@@ -1,4 +1,5 @@
-// How every function of the library answers.
+// How every function of the library answers. Each function says by itself what it lays where on an acceptance: what they have in common is `ACCEPTED` and
+// `refused`, and one function more would be no plainer.
 ghost use Rattle.std.specs.Prelude.{◌≡◌, Err};
 ghost use Rattle.ordc.specs.Reply.{reply_to};
 
@@ -15,7 +16,7 @@ pub struct Reply {
 // The answer where nothing was refused.
 pub(crate) const ACCEPTED: Reply = Reply { number: 0, line: 0 };
 
-// A refusal that was found, as hosts see it.
+// A refusal that was found, as hosts see it. A function and no `From`: contracts name `reply_to`, which answers for an acceptance too.
 pub(crate) fn refused(found: Refusal) -> Reply
     ensures { result ≡ reply_to (Err found) }
 {

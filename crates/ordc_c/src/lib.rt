@@ -1,4 +1,4 @@
-// What hosts link: each function of `ordc` under its name of C, with the same contract.
+// What hosts link: each function of `ordc` under its name of C, with the same contract: the C interface.
 #![tactic(auto)]
 
 ghost use Rattle.ordc.specs.CurveText.{CurvesLengthCalled, ReadCurvesCalled, WriteCurvesCalled};

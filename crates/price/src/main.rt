@@ -7,8 +7,10 @@ use std::io;
 use std::io::Write;
 use text_line::piece::part;
 
+// Beside the `main` of `page`: each program says its own sizes and its own name; one `main` for both would take all of these and be no plainer.
 fn main(rt: HostRuntime) -> io::Result<()> {
-    // Room for one byte more than the most that is accepted, so that a longer input is seen as such.
+    // Room for one byte more than the most that is accepted, so that a longer input is seen as such. Here and below, an array of fixed size and
+    // how much of it is filled: nothing is put on the heap.
     let mut space = [0u8; 65537];
     let Ok(length) = read_full(&mut rt.stdin(), &mut space) else {
         return eprintln!(rt; "price: standard input could not be read");

@@ -1,4 +1,5 @@
-// The bytes of a line or an hour, up to the last one.
+// The bytes of a line or an hour, up to the last one. `Ready` is a clause here and in input.rt and no invariant of `Stream`, which is public: a caller may hold
+// any number, and `feed` makes it fit.
 ghost use Rattle.std.specs.Prelude.{◌∷◌, [], true, false, ◌≡◌, ◌≤◌, length, take};
 ghost use Rattle.program_curves.specs.Program.{ends_hour};
 ghost use Rattle.program_curves.specs.Stream.{Fed, is_refused};
@@ -24,7 +25,7 @@ pub(crate) fn ends_hour(buffer: &[u8; 65536], held: usize, byte: u8) -> bool
     buffer[held - 1] == 10
 }
 
-// Whether a byte is the last one of a line or an hour, or finds no room.
+// Whether a byte is the last one of a line or an hour, or finds no room; by the stage, an enum, as `stops_at` goes by it.
 pub(crate) fn stops(stage: Stage, buffer: &[u8; 65536], held: usize, byte: u8) -> bool
     requires { (length buffer.now ≡ 65536) × (held ≤ 65536) }
     ensures { result ≡ stops_at stage held buffer.now byte }
@@ -38,7 +39,7 @@ pub(crate) fn stops(stage: Stage, buffer: &[u8; 65536], held: usize, byte: u8) -
     }
 }
 
-// The last byte of a line, or one that finds no room.
+// The last byte of a line, or one that finds no room. That the stage waits for a line is a clause, for the reason at `line_taken`.
 fn line_last_byte(stream: Stream, buffer: &mut [u8; 65536], byte: u8) -> Stream
     requires ready { Ready stream buffer.old × ((stream.held ≡ 65536 → ⊥) → byte ≡ 10) }
     requires line { 1 ≤ line_of stream.stage }

@@ -25,7 +25,8 @@ pub enum Stage {
     RefusedSettle(Refusal),
 }
 
-// The stream between two parts of the input. The bytes of the line or hour that has begun stand at the start of a lent buffer.
+// The stream between two parts of the input. The bytes of the line or hour that has begun stand at the start of a lent buffer, apart from the stream, so that
+// they are not copied with it; the contracts of `input::feed` and `output::finish`, which docs/STATEMENTS.md names, take both.
 #[derive(Clone, Copy)]
 pub struct Stream {
     pub stage: Stage,

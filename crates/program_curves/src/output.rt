@@ -13,7 +13,8 @@ use text_line::piece::part;
 use text_refusal::refusal::Refusal;
 use text_writer::output::write_refusal;
 
-// The lines of a refusal, with the name of the refused text.
+// The lines of a refusal, with the name of the refused text. The buffer's length is a clause, here and in the functions below: `write_refusal` and
+// `write_curves` take slices.
 fn print_refusal(found: Refusal, name: &[u8], out: &mut [u8]) -> usize
     requires out_len { length out.old ≡ 768 }
     requires name_len_bound { length name.now ≤ 6 }
@@ -64,7 +65,7 @@ fn print_missing(line: usize, out: &mut [u8]) -> usize
     print_refusal(Refusal { number: 3, line }, b"settle", out)
 }
 
-// What the program prints, at the start of a lent buffer; how many bytes it has.
+// What the program prints, at the start of a lent buffer; how many bytes it has. By the stage, an enum, as `finished_at` goes by it.
 #[tactic(auto, unfolding(crate::specs::Stream::finished))]
 pub fn finish(stream: Stream, buffer: &[u8; 65536], out: &mut [u8; 768]) -> usize
     ensures { Printed (finished (state_of stream buffer.now)) out.old out.new result }

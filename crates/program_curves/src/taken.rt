@@ -48,7 +48,8 @@ fn line_number(text: &[u8], key: &[u8], low: i64, high: i64) -> Result<i64, Faul
     Ok(number)
 }
 
-// The stream after a whole `voll` line.
+// The stream after a whole `voll` line. It stands beside `floor_taken`: what they have in common is `line_number` and `line_refused`; the contracts name two
+// definitions, and each sets another field.
 fn voll_taken(stream: Stream, text: &[u8]) -> Stream
     ensures { result ≡ stream_of (voll_taken (state_of stream []) (field_at voll_field text.now 0)) }
 {
@@ -78,7 +79,9 @@ fn floor_taken(stream: Stream, text: &[u8]) -> Stream
     }
 }
 
-// The stream after a whole line of either kind.
+// The stream after a whole line of either kind. By the stage, as `taken_at` goes by it: the stages are an enum, and a step as a closure would hide which line
+// is taken. That the stage waits for a line is a clause here and in the next one, and no type of the two stages: `Stage` is public, and a type of its own would
+// be made from it and turned back at once.
 pub(crate) fn line_taken(stream: Stream, text: &[u8]) -> Stream
     requires { 1 ≤ line_of stream.stage }
     ensures { result ≡ stream_of (taken_at stream.stage (state_of stream []) (field_at (field_of stream.stage) text.now 0)) }
@@ -89,7 +92,7 @@ pub(crate) fn line_taken(stream: Stream, text: &[u8]) -> Stream
     }
 }
 
-// The stream after 65537 bytes of a line of either kind.
+// The stream after 65537 bytes of a line of either kind, by the stage as in `line_taken`.
 pub(crate) fn line_too_long(stream: Stream) -> Stream
     requires { 1 ≤ line_of stream.stage }
     ensures { result ≡ stream_of (refused_settle (state_of stream []) 3 (line_of stream.stage)) }

@@ -8,7 +8,8 @@ use std::io;
 use std::io::Read;
 
 // Reads until the input ends or the space is full, and gives how many bytes were read: the next ones of the input, at the start of the space.
-// A read that fails is not the end of the input.
+// A read that fails is not the end of the input. By hand: `read_exact` does not say how many bytes came before the end, and `read_to_end` puts them on
+// the heap.
 pub fn read_full<R: Read>(input: &mut R, space: &mut [u8]) -> io::Result<usize>
     ensures within { IfOk result (λ count. count ≤ length space.old) }
     ensures bytes { IfOk result (λ count. Consumes (R.remaining input.old) (R.remaining input.new) (take count space.new)) }

@@ -12,7 +12,7 @@ use curve_set::CurveSet;
 use curve_text::read_curves;
 use text_writer::output::write_refusal;
 
-// The page of a curve set in range.
+// The page of a curve set in range. Every page has the same length, so that `write_page`, which docs/STATEMENTS.md names, does not give it.
 fn print_page(curves: CurveSet, out: &mut [u8]) -> Option<usize>
     requires { curves_in_range curves ≡ true }
     ensures { TextWritten (page_of curves) out.old 0 out.new result }

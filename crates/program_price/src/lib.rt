@@ -13,7 +13,8 @@ use text_refusal::refusal::Refusal;
 use text_writer::output::write_refusal;
 use text_writer::write_lines;
 
-// Where the first empty line starts, or the input's end.
+// Where the first empty line starts, or the input's end. Byte by byte and no `position`: whether a line starts hangs on the byte before, as in
+// `before_empty_line`.
 #[tactic(auto, using(crate::proofs::EmptyLine::empty_line_here, crate::proofs::EmptyLine::line_ended, crate::proofs::EmptyLine::in_line, crate::proofs::EmptyLine::no_empty_line))]
 fn empty_line(input: &[u8]) -> usize
     ensures { result ≡ before_empty_line true input.now }

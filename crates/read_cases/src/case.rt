@@ -24,7 +24,7 @@ pub(crate) fn number_case(
     writeln!(out, "value={z} next={}", next_line(at, b"x=", value))
 }
 
-// The words of a status, in the order of document 01.
+// The words of a status, in the order of document 01. A list of their own: the text crates know no statuses, and are checked here alone.
 const STATUSES: [&[u8]; 7] = [
     b"ON",
     b"OFF",

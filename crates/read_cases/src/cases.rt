@@ -4,6 +4,7 @@ use crate::case::{id_case, lines_case, number_case, word_case};
 use std::io;
 use std::io::Write;
 
+// By the letter, which stands in the input: each arm is one call with its numbers, so that a table of closures is no plainer.
 fn one_case(out: &mut impl Write, letter: u8, text: &[u8]) -> io::Result<()> {
     match letter {
         // A number under the key x: from the start of the text, within a range of two digits.

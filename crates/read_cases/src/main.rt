@@ -31,6 +31,7 @@ fn long_line() -> [u8; 1048576] {
     [b'1'; 1048576]
 }
 
+// Its key of two bytes and its end, each byte by its place: three bytes in all.
 fn long_number(out: &mut impl Write) -> io::Result<()> {
     let mut text = long_line();
     text[0] = b'x';

@@ -10,7 +10,7 @@ pub(crate) fn next_line(at: usize, key: &[u8], value: &[u8]) -> usize {
         .wrapping_add(1)
 }
 
-// The refusal of a fault in a text.
+// The refusal of a fault in a text. No `Display` of `Refusal`: this is how these cases are written, and `replay` writes refusals otherwise.
 pub(crate) fn show_fault(out: &mut impl Write, text: &[u8], fault: Fault) -> io::Result<()> {
     let refusal = refusal_of(text, fault);
     writeln!(out, "refused={} line={}", refusal.number, refusal.line)

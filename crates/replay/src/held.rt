@@ -1,4 +1,5 @@
 // The operations on a snapshot held as values: a header of eight numbers, a row of 32 bytes for each id, and a row of nine numbers for each resource.
+// Three arrays, as the C interface has them.
 use crate::input::{read_count, read_number};
 use crate::operation::{add, checksum};
 use crate::output::show_answer;
@@ -8,7 +9,7 @@ use ordc::write_snapshot::ordc_write_snapshot;
 use std::io;
 use std::io::{Read, Write};
 
-// Space for one resource more than a snapshot can have.
+// Space for one resource more than a snapshot can have. Two operations have it, so that its lengths stand here. It has two types, and so two functions.
 fn id_space() -> [u8; 131104] {
     [0; 131104]
 }
@@ -17,7 +18,7 @@ fn number_space() -> [i64; 36873] {
     [0; 36873]
 }
 
-// The longest buffer; the longest text has 516198 bytes.
+// The longest buffer; the longest text has 516198 bytes. Its length stands here, as those of the two above.
 fn buffer_space() -> [u8; 524288] {
     [0; 524288]
 }
@@ -25,7 +26,7 @@ fn buffer_space() -> [u8; 524288] {
 // No case has more edits.
 const MOST_EDITS: usize = 1000;
 
-// Each byte tells its place.
+// Each byte tells its place. Bytes and numbers by two functions: each tells its place in another way.
 fn lay_bytes(bytes: &mut [u8]) {
     for (i, byte) in bytes.iter_mut().enumerate() {
         *byte = (i % 251) as u8;
@@ -44,6 +45,7 @@ fn add_number(sum: u64, z: i64) -> u64 {
     add(add(sum, u64::from(z < 0)), z.unsigned_abs())
 }
 
+// Beside `checksum`: a number goes in by its sign and its size, a byte as one value.
 fn checksum_of_numbers(numbers: &[i64]) -> u64 {
     let mut sum: u64 = 0;
     for number in numbers {
@@ -80,7 +82,7 @@ pub(crate) fn read_values(
     show_read(out, text, &mut ids[..id_bytes], &mut numbers[..places])
 }
 
-// A place and a value; a place that there is not stays out of it.
+// A place and a value; a place that there is not stays out of it. Beside `edit_ids`: a number and a byte are read in two ways.
 fn edit_numbers(input: &mut impl Read, numbers: &mut [i64]) -> io::Result<()> {
     let place = read_count(input, numbers.len())?;
     let value = read_number(input)?;
@@ -105,7 +107,7 @@ fn edit_ids(input: &mut impl Read, ids: &mut [u8]) -> io::Result<()> {
     Ok(())
 }
 
-// An edit: its array, its place and its value.
+// An edit: its array, its place and its value. By the number that stands in the file: each arm is one call with another array, so that closures are no plainer.
 fn edit(
     input: &mut impl Read,
     header: &mut [i64; 8],

@@ -25,7 +25,7 @@ fn run(input: &mut impl Read, out: &mut impl Write, text: &mut [u8]) -> io::Resu
     Ok(())
 }
 
-// The longest text.
+// The longest text. Its length stands here, as those of the other spaces in held.rt.
 fn text_space() -> [u8; 1048577] {
     [0; 1048577]
 }

@@ -1,4 +1,5 @@
-// The operations, each on the text and on the numbers that follow in the file, and what is written of their answers.
+// The operations, each on the text and on the numbers that follow in the file, and what is written of their answers. A reader, a writer and a text
+// stay three: each function takes those that it uses.
 use crate::held::{read_values, write_values};
 use crate::input::{read_count, read_number, read_numbers};
 use crate::output::show_answer;
@@ -104,7 +105,8 @@ fn show_printed(out: &mut impl Write, output: &[u8]) -> io::Result<()> {
     Ok(())
 }
 
-// The program `price` on an input.
+// The program `price` on an input. Beside `run_page`: each has its own size and its own program, and one function for both would take both and be no plainer.
+// Here and in the next two, an array of fixed size and how much of it is written, as the programs have it.
 fn run_price(out: &mut impl Write, input: &[u8]) -> io::Result<()> {
     let mut output = [0u8; 768];
     let written = price_text(input, &mut output);
@@ -135,7 +137,7 @@ fn run_curves(input: &mut impl Read, out: &mut impl Write, text: &[u8]) -> io::R
     show_printed(out, part(&output, 0, length))
 }
 
-// The operation whose number follows in the file.
+// The operation whose number follows in the file. By this number: each arm is one call, and not all take the same, so that closures are no plainer.
 pub(crate) fn operate(
     input: &mut impl Read,
     out: &mut impl Write,

@@ -3,7 +3,7 @@ use ordc::reply::Reply;
 use std::io;
 use std::io::Write;
 
-// The refusal's number and its line; 0 is no refusal's number.
+// The refusal's number and its line; 0 is no refusal's number in `Reply`, a struct of the C interface. This is how the stored answers write it.
 fn show_refusal(out: &mut impl Write, refusal: Reply) -> io::Result<()> {
     if refusal.number == 0 {
         return write!(out, "accepted");
