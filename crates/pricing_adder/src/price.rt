@@ -24,7 +24,7 @@ pub struct Prices {
     pub offline: u32,
 }
 
-// The six numbers of a pricing, in the order in which they are printed.
+// The six numbers of a pricing, in the order in which they are printed. A function and no `From`, since docs/STATEMENTS.md names it.
 pub fn price_values(p: Prices) -> [i64; 6]
     ensures { result ≡ price_values p }
 {

@@ -1,5 +1,6 @@
 // A snapshot held as values: a header of eight numbers, and for each resource a row of bytes with its id and a row of numbers with its kind, its status and its
-// numbers and their marks. How many resources are held, and the first line of their text that would be refused.
+// numbers and their marks. How many resources are held, and the first line of their text that would be refused. Header, ids and numbers stay three slices:
+// hosts lend them so through the C interface, and docs/STATEMENTS.md names the functions with them.
 #![tactic(auto)]
 
 ghost use Rattle.std.specs.Prelude.{◌≡◌, ◌≤◌, ◌*◌, [], length};
@@ -37,7 +38,8 @@ pub fn held_number_rows<'a>(ids: &[u8], numbers: &'a [i64]) -> &'a [[i64; 9]]
     &rows[..held_count(ids, numbers)]
 }
 
-// A number as a place in a list of words, since hosts name kinds and statuses by it: one below 0 stands outside the list, as one above does.
+// A number as a place in a list of words, since hosts name kinds and statuses by it: one below 0 stands outside the list, as one above does;
+// 7 and no Option, as `place_of` of specs/Rows.antt.
 pub fn place_of(z: i64) -> usize
     ensures { result ≡ place_of z }
 {
@@ -47,7 +49,7 @@ pub fn place_of(z: i64) -> usize
     magnitude(z) as usize
 }
 
-// The header of so many resources: its eighth number is not looked at.
+// The header of so many resources: its eighth number is not looked at. No `From`: it takes a count as well, and contracts name the definition `header_held`.
 fn header_held(header: &[i64; 8], count: usize) -> Header
     requires { count ≤ 1152921504606846976 }
     ensures { result ≡ header_held header.now count }
@@ -65,7 +67,8 @@ fn header_held(header: &[i64; 8], count: usize) -> Header
     }
 }
 
-// The first refused line of the rows; where they are few, the table of their ids is small.
+// The first refused line of the rows; where they are few, the table of their ids is small. Two arrays and no const parameter: the count is known only as the
+// program runs, and there is no heap.
 fn rows_checked(ids: &[u8], rows: &[[i64; 9]]) -> Result<(), Refusal>
     requires { (length rows.now ≤ 4096) × (32 * length rows.now ≤ length ids.now) }
     ensures { result ≡ first_refused 9 (rows_lines [] (rows_in ids.now 0 rows.now)) }

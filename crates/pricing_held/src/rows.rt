@@ -24,7 +24,8 @@ pub(crate) fn row_lines(values: &[i64; 9]) -> usize
     6
 }
 
-// A row: its first refused line, the row's first line being `line`. An id that is new is put into the table.
+// A row: its first refused line, the row's first line being `line`. An id that is new is put into the table. The steps on the table
+// stand here and in `new_id` of pricing_snapshot: as one public function they would need a `requires`, that a slot is left.
 #[tactic(auto, using(text_id_table::proofs::Table::slot_within, crate::proofs::RowChecks::checked_ill_formed, crate::proofs::RowChecks::checked_repeated, crate::proofs::RowChecks::checked_new))]
 fn check_row(
     ids: &[u8],
@@ -48,7 +49,8 @@ fn check_row(
     check_values(values, line + 1)
 }
 
-// The rows, the first of them at line 9, their ids kept in a table that is empty.
+// The rows, the first of them at line 9, their ids kept in a table that is empty. That ids and rows fit is a clause and no type: `held_number_rows`, which
+// docs/STATEMENTS.md names, gives the rows alone, and a struct of rows and ids would be taken apart in each function.
 pub(crate) fn check_rows(ids: &[u8], rows: &[[i64; 9]], starts: &mut [usize]) -> Result<(), Refusal>
     requires fact_1 { IdTable 0 ids.now starts.old [] }
     requires fact_2 { Room (length rows.now) starts.old }

@@ -10,7 +10,8 @@ use pricing_resource::suspect::suspect_place;
 use pricing_resource::{Controllable, Generator, Kind, Load, Resource};
 use pricing_resource_text::made::status_of;
 
-// The kind of a generator by its place in the list of words.
+// The kind of a generator by its place in the list of words. No `From`: every number past the third counts as the last kind here, as the contract says, which
+// is meant for rows alone.
 fn kind_of(place: usize) -> Kind
     ensures { result ≡ kind_of place }
 {
@@ -22,7 +23,7 @@ fn kind_of(place: usize) -> Kind
     }
 }
 
-// A flag as a resource holds it: no verdict tells apart numbers that are no 1.
+// A flag as a resource holds it: no verdict tells apart numbers that are no 1. No `From`: every number but 1 counts as 0, as the contract says.
 fn flag_of(z: i64) -> i32
     ensures { result ≡ flag_of z }
 {

@@ -12,7 +12,8 @@ use integer::magnitude;
 use integer::range::is_within;
 use text_refusal::refusal::Refusal;
 
-// The first of some numbers that is out of its range, the first of them standing at a line.
+// The first of some numbers that is out of its range, the first of them standing at a line. Lows and highs stay apart, as `numbers_checked` of
+// specs/internal/Checks.antt takes them.
 fn check_numbers(values: &[i64], lows: &[i64], highs: &[i64], line: usize) -> Result<(), Refusal>
     requires { (length values.now ≡ length lows.now) × ((length values.now ≡ length highs.now) × ((length values.now ≤ 8) × (line ≤ 100000))) }
     ensures { result ≡ numbers_checked line lows.now highs.now values.now }
@@ -41,7 +42,8 @@ fn check_flag(z: i64, marked: bool, line: usize) -> Result<(), Refusal>
     Ok(())
 }
 
-// The numbers of a generator after its kind: its status, then five numbers and a flag, whose mark is the sixth.
+// The numbers of a generator after its kind: its status, then five numbers and a flag, whose mark is the sixth. Here and in the next two
+// the clause bounds a line that is only counted up from here: a type for it would be made and opened at each step.
 #[tactic(auto, using(crate::proofs::RowLines::status_refused, crate::proofs::RowLines::generator_refused, crate::proofs::RowLines::generator_checked))]
 fn check_generator(values: &[i64; 9], line: usize) -> Result<(), Refusal>
     requires { line ≤ 90000 }

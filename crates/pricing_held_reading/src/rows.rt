@@ -34,7 +34,9 @@ fn lay_id(text: &[u8], at: usize, row: &mut [u8]) -> usize
     at + 3 + id.len() + 1
 }
 
-// The lines of a generator after its kind laid in its row of 9 numbers; where the next line starts.
+// The lines of a generator after its kind laid in its row of 9 numbers; where the next line starts. Entry by entry here and in the next: each is another thing,
+// and the numbers between are laid by `lay_numbers`. A row stays a range of the numbers and no array of nine: once a loan of chunks is over, a proof knows
+// the slice's length and no element.
 fn lay_generator(text: &[u8], kind: usize, at: usize, row: &mut [i64]) -> usize
     requires { (kind < 4) × Got (of_kind text.now kind at) × (length row.old ≡ 9) }
     ensures { Laid (of_kind text.now kind at) number_row row.new result }

@@ -34,7 +34,7 @@ pub(crate) fn kind_at(text: &[u8], at: usize) -> Taken<usize>
 }
 
 // The place of the status whose line starts at a position and is not the last, known by its second letter; of `ON` and `ONTEST` by the third, of `OFF` and
-// `OFFNS` by the fourth.
+// `OFFNS` by the fourth. A sum of tests, as in `kind_at`.
 pub(crate) fn status_at(text: &[u8], at: usize) -> Taken<usize>
     requires { Got (field_at status_field text.now at) × (at + 10 < length text.now) }
     ensures { field_at status_field text.now at ≡ got result.value result.next }

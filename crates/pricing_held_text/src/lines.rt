@@ -1,4 +1,5 @@
-// Lines for which there is room, and where the next line starts.
+// Lines for which there is room, and where the next line starts. These ask for the room, so that they never fail; text_writer can hand out no such function,
+// since no public function has a `requires`. Buffer and place stay apart, as in text_writer.
 ghost use Rattle.std.specs.Prelude.{[], ◌∷◌, ◌++◌, ◌≤◌, ◌+◌, length};
 ghost use Rattle.text_number.specs.Marked.{marked_by};
 ghost use Rattle.text_schema.specs.Schema.{keys_of};

@@ -14,7 +14,8 @@ use integer::magnitude;
 use pricing_held::place_of;
 use text_writer::number_length;
 
-// How many bytes some numbers have as they are written, of which there are few.
+// How many bytes some numbers have as they are written, of which there are few. Here and in curve_text: as one public function it could ask for no bound, since
+// no public function has a `requires`, and without one the sum need not fit.
 pub(crate) fn numbers_length(values: &[i64]) -> usize
     requires { length values.now ≤ 8 }
     ensures { (result ≡ number_bytes values.now) × (result ≤ 20 * length values.now) }
@@ -44,7 +45,8 @@ pub(crate) fn values_length(values: &[i64; 9], kind: usize) -> usize
     22 + numbers_length(&values[2..6]) + marked
 }
 
-// The lines of a row after its kind; where the next line starts.
+// The lines of a row after its kind, which stays a number as in `values_length`; where the next line starts. The keys are those that reading has, once more: it
+// keeps them to itself.
 pub(crate) fn put_values(buffer: &mut [u8], at: usize, values: &[i64; 9], kind: usize) -> usize
     requires { at + length (text_of (lines_of_kind kind (row_of values.now))) ≤ length buffer.old }
     ensures { TextLaid (text_of (lines_of_kind kind (row_of values.now))) buffer.old at buffer.new result }

@@ -23,7 +23,7 @@ fn row_length(id: &[u8], values: &[i64; 9]) -> usize
     10 + id.len() + kind_word(kind).len() + values_length(values, kind)
 }
 
-// How many bytes the text of the rows has.
+// How many bytes the text of the rows has. Ids and rows stay apart here and in `put_rows`, as `check_rows` of pricing_held says.
 fn rows_length(ids: &[u8], rows: &[[i64; 9]]) -> usize
     requires { (length rows.now ≤ 4096) × (32 * length rows.now ≤ length ids.now) }
     ensures { (result ≡ length (rows_text (rows_in ids.now 0 rows.now))) × (result ≤ 256 * length rows.now) }
@@ -57,7 +57,8 @@ fn put_rows(buffer: &mut [u8], at: usize, ids: &[u8], rows: &[[i64; 9]])
     }
 }
 
-// The header's numbers as they are written: the eighth is the number of resources held.
+// The header's numbers as they are written: the eighth is the number of resources held. Not that of pricing_sums, which takes a `Header`: a host's eight
+// numbers are written as they are but for the last.
 fn header_values(header: &[i64; 8], count: usize) -> [i64; 8]
     requires { count ≤ 4096 }
     ensures { result ≡ header_values (header_held header.now count) }
@@ -76,7 +77,7 @@ pub(crate) fn text_length(header: &[i64; 8], ids: &[u8], numbers: &[i64]) -> usi
     54 + numbers_length(&values) + rows_length(ids, rows)
 }
 
-// The text at the front of a buffer that has room for it.
+// The text at the front of a buffer that has room for it. The header's keys are those that reading has, once more: it keeps them to itself.
 pub(crate) fn put_text(buffer: &mut [u8], header: &[i64; 8], ids: &[u8], numbers: &[i64])
     requires { (held_count ids.now numbers.now ≤ 4096) × (length (held_text header.now ids.now numbers.now) ≤ length buffer.old) }
     ensures { buffer.new ≡ laid_at buffer.old 0 (held_text header.now ids.now numbers.now) }

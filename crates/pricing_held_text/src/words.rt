@@ -3,6 +3,7 @@ ghost use Rattle.std.specs.Prelude.{◌≡◌, ◌≤◌, length, map};
 ghost use Rattle.text_word.specs.Word.{written_word};
 ghost use Rattle.pricing_resource_text.specs.Resource.{kind_words, status_words};
 
+// Again here: pricing_resource_text keeps its lists to itself, and the words handed out have to outlive the call, as those of a `static` do.
 static KINDS: [&[u8]; 6] = [b"gen", b"wind", b"irr", b"nuke", b"clr", b"nclr"];
 
 static STATUSES: [&[u8]; 7] = [
@@ -15,7 +16,7 @@ static STATUSES: [&[u8]; 7] = [
     b"OUT",
 ];
 
-// The word at a place of a list; past the last there is none.
+// The word at a place of a list; past the last there is none: no bytes and no Option, as `written_word` of text_word.
 #[tactic(auto, using(crate::proofs::Listed::word_here, crate::proofs::Listed::word_none))]
 fn word_at(words: &[&'static [u8]], place: usize) -> &'static [u8]
     ensures { result.now ≡ written_word (map (λ w. w.now) words.now) place }

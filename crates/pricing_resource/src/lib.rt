@@ -26,7 +26,8 @@ pub enum Status {
 }
 
 // Power in kW; cold30 is a flag, 0 or 1. In each kind of resource `marks` says which of its numbers are marked suspect, in the order of its lines: 1 for the first,
-// 2 for the second, 4 for the third, and so on.
+// 2 for the second, 4 for the third, and so on. A flag stays a number and no bool: `counted_offline` and `part_of`, which docs/STATEMENTS.md names, are stated
+// for every number. The marks stay one number: `with_marks` and `suspect_place` of the definitions go by it, and hosts hold it so in their rows.
 #[derive(Clone, Copy)]
 pub struct Generator {
     pub kind: Kind,

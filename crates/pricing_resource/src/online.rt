@@ -4,6 +4,7 @@ ghost use Rattle.pricing_resource.specs.Online.{is_gen_or_wind, is_running, coun
 
 use crate::{Generator, Kind, Status};
 
+// Beside `is_gen_or_nuke`, as said there.
 pub(crate) fn is_gen_or_wind(kind: Kind) -> bool
     ensures { result ≡ is_gen_or_wind kind }
 {

@@ -41,7 +41,8 @@ fn marks(resource: Resource) -> u64
     }
 }
 
-// How many lines a resource has.
+// How many lines a resource has. Beside `lines_before_numbers`: two names of the definitions, and docs/STATEMENTS.md has this one; one function would take both
+// its answers.
 pub fn resource_line_count(resource: Resource) -> usize
     ensures { result ≡ resource_line_count resource }
 {
@@ -62,6 +63,7 @@ fn lines_before_numbers(resource: Resource) -> usize
 }
 
 // How many numbers stand before the first marked one; 5 where none of the first five is marked: that many do.
+// 5 and no Option: `suspect_place` of specs/Suspect.antt adds it as it is.
 #[tactic(auto, using(crate::proofs::Suspects::before_first))]
 fn unmarked_before(marks: u64) -> usize
     ensures { result ≡ unmarked_before 5 marks }

@@ -10,7 +10,8 @@ use pricing_resource::{Kind, Status};
 use text_line::line::{line_value, value_fault};
 use text_refusal::refusal::Fault;
 
-// The least and the greatest number of each line, where they differ.
+// The least and the greatest number of each line, where they differ; apart, as `read_lines` takes them. pricing_held has the same bounds again, without those
+// of a flag.
 const GENERATOR_LOWS: [i64; 6] = [-2000000, 0, 0, 0, 0, 0];
 
 const GENERATOR_HIGHS: [i64; 6] = [2000000, 2000000, 2000000, 2000000, 2000000, 1];
@@ -46,7 +47,9 @@ pub(crate) fn generator_at(text: &[u8], at: usize, kind: Kind) -> Result<Resourc
     generator_lines(text, at + 7 + value.len() + 1, kind, status_of(index))
 }
 
-// The lines of a controllable load after its kind; none of them is a flag.
+// The lines of a controllable load after its kind; none of them is a flag: 4 is past the last of its places, and `fields_of` of specs/internal/Marks.antt
+// compares each place with the flag's. Beside `load_at`: what they have in common is `number_lines`; the contracts name two definitions, and one function would
+// take keys, bounds, flag and what is made as arguments.
 pub(crate) fn controllable_at(text: &[u8], at: usize) -> Result<ResourceLines, Fault>
     ensures { lines_answer result ≡ lines_as (with_marks controllable_of) controllable_fields text.now at }
 {

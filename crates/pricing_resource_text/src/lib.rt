@@ -15,14 +15,16 @@ use pricing_resource::{Kind, Resource};
 use text_line::line::{line_value, value_fault};
 use text_refusal::refusal::Fault;
 
-// A resource read, and where the next one starts.
+// A resource read, and where the next one starts. A struct of its own: `lines_answer` of the contracts names `resource`, which says what was read; a generic
+// one would say `value`.
 #[derive(Clone, Copy)]
 pub struct ResourceLines {
     pub resource: Resource,
     pub next: usize,
 }
 
-// The lines of a resource after its kind.
+// The lines of a resource after its kind, which stays the place in the list of words: `of_kind` of specs/Resource.antt goes by it. Each arm is one call, so
+// closures would be no plainer.
 fn of_kind(text: &[u8], index: usize, at: usize) -> Result<ResourceLines, Fault>
     ensures { lines_answer result ≡ of_kind text.now index at }
 {

@@ -5,7 +5,7 @@ ghost use Rattle.pricing_resource_text.specs.Resource.{status_of, generator_of, 
 
 use pricing_resource::{Controllable, Generator, Kind, Load, Resource, Status};
 
-// The numbers read, in half the width.
+// The numbers read, in half the width. No `TryFrom`: each number is in its range, so nothing can fail.
 pub(crate) fn narrowed<const N: usize>(v: [i64; N]) -> [i32; N]
     requires { (place : ℕ) → nat_abs (value v place) ≤ 2000000 }
     ensures { result ≡ v.entry }
@@ -17,7 +17,7 @@ pub(crate) fn narrowed<const N: usize>(v: [i64; N]) -> [i32; N]
     out
 }
 
-// A status by its place in the list of words, by which hosts name it.
+// A status by its place in the list of words, by which hosts name it; no `From`, since docs/STATEMENTS.md names `status_of`.
 pub fn status_of(index: usize) -> Status
     ensures { result ≡ status_of index }
 {

@@ -10,7 +10,8 @@ use text_number::{NumberError, number_of, number_refusal};
 use text_refusal::refusal::Fault;
 use text_schema::read_lines;
 
-// Which of the numbers read are marked, and where their lines end.
+// Which of the numbers read are marked, and where their lines end. A struct of its own: `MarksRead` of the contracts names `marks`, which
+// says what was read; a generic one would say `value`.
 #[derive(Clone, Copy)]
 pub(crate) struct MarkedLines {
     pub marks: u64,
@@ -28,6 +29,8 @@ fn marked_or_flag(value: &[u8], low: i64, high: i64, flag: bool) -> Result<Marke
 }
 
 // The lines due at a position, each a number under its key within its bounds, into their places; the one at the place `flag` carries no mark.
+// The loop of `read_lines` once more, which reads numbers without marks: a reader as a parameter would need its contract in `LinesRead`, which
+// docs/STATEMENTS.md has. Keys and bounds stay apart, as `read_lines` takes them; so in the next function.
 #[tactic(auto, using(crate::proofs::Marking::marked_start))]
 fn marked_lines(
     text: &[u8],

@@ -5,6 +5,7 @@ ghost use Rattle.pricing_resource_text.specs.Resource.{kind_words, status_words}
 
 use text_word::is_word;
 
+// Both lists stand once more in pricing_held_text, for writing, as said there.
 const KIND_WORDS: [&[u8]; 6] = [b"gen", b"wind", b"irr", b"nuke", b"clr", b"nclr"];
 
 const STATUS_WORDS: [&[u8]; 7] = [

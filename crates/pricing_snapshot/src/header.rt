@@ -8,14 +8,15 @@ use pricing_sums::header::{HEADER_HIGHS, HEADER_LOWS, Header};
 use text_refusal::refusal::Fault;
 use text_schema::read_lines;
 
-// A header read, and where its lines end.
+// A header read, and where its lines end. A struct of its own: `header_answer` of the contracts names `header`, which says what was read; a generic one would
+// say `value`.
 #[derive(Clone, Copy)]
 pub(crate) struct HeaderLines {
     pub header: Header,
     pub next: usize,
 }
 
-// The header by its values.
+// The header by its values. A function and no `From`, since contracts name the definition `header_of`; `header_held` of pricing_held has another last number.
 fn header_of(v: [i64; 8]) -> Header
     ensures { result ≡ header_of v }
 {

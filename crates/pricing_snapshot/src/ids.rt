@@ -7,6 +7,7 @@ use text_line::line::{line_value, value_fault};
 use text_refusal::refusal::Fault;
 
 // The id due at a position, put into the table, unless it stands above (8): where the lines after it start, or the refused line.
+// The steps on the table stand here and in `check_row` of pricing_held: as one public function they would need a `requires`, that a slot is left.
 pub(crate) fn new_id(text: &[u8], at: usize, starts: &mut [usize]) -> Result<usize, Fault>
     requires { RoomLeft text.now starts.old }
     ensures { IdKept text.now at starts.old starts.new result }

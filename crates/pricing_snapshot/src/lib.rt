@@ -25,7 +25,8 @@ pub struct Snapshot {
     pub sums: Sums,
 }
 
-// The resources; where they are few, the table of their ids is small.
+// The resources; where they are few, the table of their ids is small. Two arrays and no const parameter: the count is known only as the program runs, and there
+// is no heap.
 fn resources_in(text: &[u8], at: usize, count: usize) -> Result<Resources, Fault>
     requires { count ≤ 4096 }
     ensures { resources_answer result ≡ tallied no_tally (resources_at resource_at count [] text.now at) }

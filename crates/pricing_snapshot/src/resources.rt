@@ -24,14 +24,15 @@ pub struct Tally {
     pub suspect: Option<usize>,
 }
 
-// What the resources come to, and where their lines end.
+// What the resources come to, and where their lines end. A struct of its own: `resources_answer` of the contracts names `tally`, which says what was read; a
+// generic one would say `value`.
 #[derive(Clone, Copy)]
 pub struct Resources {
     pub tally: Tally,
     pub next: usize,
 }
 
-// The sums with one resource's part added.
+// The sums with one resource's part added. No `impl Add`: it would take any sums, and these fit only by what the clauses ask.
 fn plus(sums: Sums, part: Sums) -> Sums
     requires fact_1 { SumsWithin 4095 sums }
     requires fact_2 { SumsWithin 1 part }

@@ -28,7 +28,7 @@ pub const HEADER_HIGHS: [i64; 8] = [
     12, 23, 2000000, 10000, 200000000, 200000000, 200000000, 4096,
 ];
 
-// A header's numbers in the order of its lines.
+// A header's numbers in the order of its lines. A function and no `From`, since contracts name the definition `header_values`.
 fn header_values(h: Header) -> [i64; 8]
     ensures { result ≡ header_values h }
 {
