@@ -5,6 +5,7 @@
 #   make tests                   the tests of the bindings in Rust and Python
 #   make damaged                 damaged texts and values handed to every function, under valgrind
 #   make stack                   every function in a thread with the stack that the header promises to be enough
+#   make names                   what the archive takes from outside: memcpy and memset alone
 #   make programs                the programs beside the second implementation, and the memory of `curves`
 #   make wrong-mains             wrong versions of the programs, each of which an input of `make programs` must tell
 #   make bench                   the library beside the second implementation (a report, not a test)
@@ -27,7 +28,7 @@ PLACE := $(CURDIR)/target/bin
 COMPILED := $(or $(CARGO_TARGET_DIR),$(CURDIR)/reference/target)
 REFERENCE := $(COMPILED)/release/reference
 
-.PHONY: lib install examples c-example rust-example python-example tests damaged stack programs wrong-mains reference built-programs bench
+.PHONY: lib install examples c-example rust-example python-example tests damaged stack names programs wrong-mains reference built-programs bench
 .DELETE_ON_ERROR:
 
 lib: $(ARCHIVE) $(SHARED)
@@ -78,6 +79,9 @@ damaged: $(BUILD)/example $(BUILD)/damaged
 
 stack: $(BUILD)/stack
 	$(BUILD)/stack
+
+names: $(ARCHIVE)
+	test "$$(nm -u $< | sed -n 's/^ *U //p' | sort | tr '\n' ' ')" = "memcpy memset "
 
 reference:
 	cd reference && cargo build --offline --release --quiet --target-dir $(COMPILED)

@@ -60,6 +60,16 @@ capped f d far r x = go (le_z r x) refl
         let is = above_is r x (le_z-false r x e) in
         at_distance f d far (nat_abs (r -ℤ x)) is.1 ∙ ap (λ (a : ℤ). 1000000000 - normal (f a) d) (sym is.0)
 
+-- at X and below it
+module _ (reserve floor mean : ℤ) (spread : ℕ) (h : le_z reserve floor ≡ true) where
+  pub online_at_x : 1000000000 ≡ online_probability reserve floor mean spread
+  unfolding online_probability
+  online_at_x = rw h refl
+
+  pub offline_at_x : 1000000000 ≡ offline_probability reserve floor mean spread
+  unfolding offline_probability
+  offline_at_x = rw h refl
+
 module _ (reserve floor mean : ℤ) (spread : ℕ) (m : SFits w32 mean) (s : Fits w32 spread) where
   pub online_is : left_of_one (distance_above reserve floor) (normal (pos 50000 *ℤ (pos 2 *ℤ pos (distance_above reserve floor) -ℤ mean)) (707 * spread))
       ≡ online_probability reserve floor mean spread

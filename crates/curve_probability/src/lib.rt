@@ -71,6 +71,10 @@ fn left_of_one(distance: u64, value: u64) -> u64
 pub fn online_probability(reserve: i64, floor: i32, mean: i32, spread: u32) -> u64
     ensures { result ≡ online_probability reserve floor mean spread }
 {
+    // At X and below it nothing has to be looked up in the table.
+    if reserve <= floor as i64 {
+        return 1000000000;
+    }
     let distance = distance_above(reserve, floor);
     let value = distribution(online_numerator(distance, mean), 707 * spread as u64);
     left_of_one(distance, value)
@@ -81,6 +85,9 @@ pub fn online_probability(reserve: i64, floor: i32, mean: i32, spread: u32) -> u
 pub fn offline_probability(reserve: i64, floor: i32, mean: i32, spread: u32) -> u64
     ensures { result ≡ offline_probability reserve floor mean spread }
 {
+    if reserve <= floor as i64 {
+        return 1000000000;
+    }
     let distance = distance_above(reserve, floor);
     let value = distribution(offline_numerator(distance, mean), spread as u64);
     left_of_one(distance, value)

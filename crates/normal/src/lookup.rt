@@ -20,12 +20,35 @@ struct Interval {
     step: u64,
 }
 
-// The floor of step * rest / denominator.
+// The floor of step * rest / denominator where the product may not fit: the greatest number whose product with the denominator is no more, by halving
+// the numbers that are left. A division in 128 bits would be a call of the compiler's run-time library, which the archive for C does without.
+fn bisected(step: u64, rest: u64, denominator: u64) -> u64
+    requires { (rest < denominator) × (step < 4000000) }
+    ensures { result ≡ step * rest / denominator }
+{
+    let product = step as u128 * rest as u128;
+    let mut low: u64 = 0;
+    let mut high = step + 1;
+    while low + 1 < high {
+        let middle = (low + high) / 2;
+        if middle as u128 * denominator as u128 <= product {
+            low = middle;
+        } else {
+            high = middle;
+        }
+    }
+    low
+}
+
+// The floor of step * rest / denominator. Up to 2^42 the product fits.
 fn share(step: u64, rest: u64, denominator: u64) -> u64
     requires { (rest < denominator) × (step < 4000000) }
     ensures { result ≡ step * rest / denominator }
 {
-    (step as u128 * rest as u128 / denominator as u128) as u64
+    if rest < 4398046511104 {
+        return step * rest / denominator;
+    }
+    bisected(step, rest, denominator)
 }
 
 impl Table {

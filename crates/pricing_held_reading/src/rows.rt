@@ -20,8 +20,10 @@ fn put_id(row: &mut [u8], id: &[u8])
     requires { (length id.now ≤ 32) × (length row.old ≡ 32) }
     ensures { row.new ≡ id_row id.now }
 {
-    row[..id.len()].copy_from_slice(id);
-    row[id.len()..].fill(0);
+    row.fill(0);
+    for (i, &byte) in id.iter().enumerate() {
+        row[i] = byte;
+    }
 }
 
 // The id whose line starts at a position laid in its row; where the next line starts.

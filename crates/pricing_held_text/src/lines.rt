@@ -7,6 +7,7 @@ ghost use Rattle.text_writer.specs.Write.{TextLaid, written_marked_lines};
 
 use text_writer::line::write_text_line;
 use text_writer::marked::write_marked_lines;
+use text_writer::write_lines;
 
 // A line of text.
 #[tactic(auto, using(crate::proofs::Room::laid_of))]
@@ -17,7 +18,7 @@ pub(crate) fn put_text_line(buffer: &mut [u8], at: usize, key: &[u8], text: &[u8
     write_text_line(buffer, at, key, text).unwrap_or(at)
 }
 
-// The lines of numbers, of which the marks say which are marked.
+// The lines of numbers, of which the marks say which are marked; where there are none, as numbers alone.
 #[tactic(auto, using(crate::proofs::Room::laid_of))]
 pub(crate) fn put_numbers(
     buffer: &mut [u8],
@@ -29,5 +30,8 @@ pub(crate) fn put_numbers(
     requires { at + length (written_marked_lines (keys_of keys.now) (marked_by marks values.now)) ≤ length buffer.old }
     ensures { TextLaid (written_marked_lines (keys_of keys.now) (marked_by marks values.now)) buffer.old at buffer.new result }
 {
+    if marks == 0 {
+        return write_lines(buffer, at, keys, values).unwrap_or(at);
+    }
     write_marked_lines(buffer, at, keys, values, marks).unwrap_or(at)
 }

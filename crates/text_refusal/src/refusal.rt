@@ -18,14 +18,17 @@ pub struct Refusal {
     pub line: usize,
 }
 
-// How many lines end before a position.
+// How many lines end before a position. A loop: the bytes filtered and counted take twice as long.
 fn ended_lines(text: &[u8], at: usize) -> usize
     ensures { result ≡ ended_lines at text.now }
 {
-    text[..at.min(text.len())]
-        .iter()
-        .filter(|&&byte| byte == b'\n')
-        .count()
+    let mut count: usize = 0;
+    for &byte in &text[..at.min(text.len())] {
+        if byte == b'\n' {
+            count += 1;
+        }
+    }
+    count
 }
 
 // The refusal of a fault, its line counted in the text.

@@ -1,14 +1,17 @@
 -- How many bytes lines of numbers have, with marks and without.
-use Prim.Native.Nat.{ℕ, zero, suc, ◌+◌, ◌/◌, ◌%◌, ◌≤◌, ◌<◌}
+use Prim.Native.Nat.{ℕ, zero, suc, ◌+◌, ◌*◌, ◌/◌, ◌%◌, ◌≤◌, ◌<◌}
 use native.Mathlib.Numerals.{add-one}
 use native.Mathlib.Omega.{arith}
+use borrow.Author.Tests.{ltb-false}
+use mathlib.Core.Bool.{Bool, true, false}
 use mathlib.Core.List.{List, [], ◌∷◌}
 use mathlib.Core.Path.{◌≡◌, refl, sym, ap, ◌∙◌}
+use lib.Dec.{ltb}
 use lib.IntN.{ℤ, pos}
 use lib.ListN.{length, take, drop, get_or, length-append, drop_of_length-le}
 use lib.Seq.{drop-cons, length-take-le, take-take}
 use mir.Syntax.{w64}
-use mir.Val.{SFits}
+use mir.Val.{SFits, bool_byte}
 use Rattle.integer.proofs.Bounds.{fits_abs}
 use Rattle.text_line.specs.Field.{Field}
 use Rattle.text_line.proofs.Pieces.{computed_pieces}
@@ -23,7 +26,7 @@ use Rattle.text_schema.proofs.Fields.{keys_computed}
 use Rattle.text_schema.proofs.MarkedWidths.{MarkedWidths}
 use Rattle.text_writer.specs.Write.{written_numbers, written_marked_line, written_marked_lines}
 use Rattle.text_writer.proofs.MarkedLines.{first_mark, marked_line_length, no_marked_keys, first_marked_line, lines_unmarked, marked_text}
-use Rattle.text_writer.proofs.ShortLines.{key_bytes}
+use Rattle.text_writer.proofs.ShortLines.{key_bytes, marks_few}
 use Rattle.text_writer.specs.internal.Counted.{number_bytes, mark_bytes}
 
 -- ---- the bytes of numbers, one after the other
@@ -64,6 +67,16 @@ pub marks_left : (count : ℕ) → mark_bytes count 0 ≡ 0
 unfolding mark_bytes
 marks_left zero = refl
 marks_left (suc count) = omega (arith, marks_left count)
+
+-- room for nine bytes a line, and for one more a line where there are marks
+pub marked_room : (count room marks : ℕ) → count ≤ room / (9 + bool_byte (ltb 0 marks)) → 9 * count + mark_bytes count marks ≤ room
+marked_room count room marks fits = go (ltb 0 marks) refl fits
+  where
+    go : (some : Bool) → ltb 0 marks ≡ some → count ≤ room / (9 + bool_byte some) → 9 * count + mark_bytes count marks ≤ room
+    go true e nine = omega (arith, marks_few count marks)
+    go false e nine =
+        let none : marks ≡ 0 = omega (arith, ltb-false 0 marks e) in
+        omega (arith, marks_left count, ap (mark_bytes count) none)
 
 -- ---- the bytes of lines
 

@@ -43,9 +43,10 @@ fn put_bytes(buffer: &mut [u8], at: usize, bytes: &[u8]) -> usize
     requires { at + length bytes.now ≤ length buffer.old }
     ensures { TextLaid bytes.now buffer.old at buffer.new result }
 {
-    let end = at + bytes.len();
-    buffer[at..end].copy_from_slice(bytes);
-    end
+    for (i, &byte) in bytes.iter().enumerate() {
+        buffer[at + i] = byte;
+    }
+    at + bytes.len()
 }
 
 // The digits of a number before a position, the last one first, as far as they stand from another position on; where the first of them stands.

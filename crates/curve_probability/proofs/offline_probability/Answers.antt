@@ -1,7 +1,12 @@
 use Rattle.std.proofs.Common.{FitsSigned, w64, rules}
 use mir.Facts.{to_z-of_z}
-use Rattle.curve_probability.proofs.Distance.{offline_is}
+use Rattle.curve_probability.proofs.Distance.{offline_at_x, offline_is}
 use Rattle.curve_probability.proofs.offline_probability.Goals as goal
+
+pub returns-then-reserve-floor : goal.returns-then-reserve-floor
+returns-then-reserve-floor c =
+    let low : FitsSigned w64 c.args.floor = search rules in
+    offline_at_x c.args.reserve c.args.floor c.args.mean c.args.spread (rw (to_z-of_z c.ranges.reserve, to_z-of_z c.ranges.floor, to_z-of_z low) at c.if-reserve-floor.true)
 
 pub returns : goal.returns
 returns c =

@@ -11,10 +11,9 @@ pub returns-then-line-ne0 : goal.returns-then-line-ne0
 returns-then-line-ne0 c = header_decides c.args.header.now c.args.ids.now c.args.numbers.now c.held_number_rows-rows.ensures.count c.header_held.ensures c.header_fault-line.ensures c.if-line-ne0.true
 
 pub rows_checked-requires : goal.rows_checked-requires
-rows_checked-requires c = (
-  few_rows c.args.header.now c.args.ids.now c.args.numbers.now c.held_number_rows-rows.ensures.count c.header_held.ensures c.header_fault-line.ensures c.if-line-ne0.false,
-  omega (arith, held_ids c.args.ids.now c.args.numbers.now, c.held_number_rows-rows.ensures.count),
-)
+rows_checked-requires c =
+    let few = few_rows c.args.header.now c.args.ids.now c.args.numbers.now c.held_number_rows-rows.ensures.count c.header_held.ensures c.header_fault-line.ensures c.if-line-ne0.false in
+    (omega (arith, few), omega (arith, held_ids c.args.ids.now c.args.numbers.now, c.held_number_rows-rows.ensures.count))
 
 pub returns-in_err-rows_checked : goal.returns-in_err-rows_checked
 returns-in_err-rows_checked c =
